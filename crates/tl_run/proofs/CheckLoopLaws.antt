@@ -1,5 +1,5 @@
 -- Laws of the right answers of `check-loop`.
-use Rattle.std.proofs.Common.{◌≡◌, inl, inr, ℕ, List, sym, ap, subst}
+use Rattle.std.proofs.Common.{◌≡◌, inl, inr, ℕ, List, refl, sym, subst}
 use Rattle.std.specs.Prelude.{Option}
 use Rattle.tl_action.specs.declared.check_fault.CheckFault.TheVariants as fault
 use Rattle.tl_eval.specs.declared.range.RangeNote.{RangeNote}
@@ -10,49 +10,42 @@ use Rattle.tl_lasso.specs.declared.plan.LoopPlan.{LoopPlan}
 use Rattle.tl_lasso.specs.declared.verdict.LoopVerdict.{LoopVerdict}
 use Rattle.tl_lasso.specs.declared.verdict.LoopVerdict.TheVariants.{Valid, NotExecutable, NotClosed, GoalUnmet, Disobeys}
 use Rattle.tl_outside.specs.Told.{Files}
-use Rattle.tl_syntax.specs.declared.action.Action.{Action}
 use Rattle.tl_syntax.specs.declared.problem.Problem.{Problem}
 use Rattle.tl_terms.specs.Problem.{PlainProblem}
 use Rattle.tl_terms.specs.ProblemMeaning.{plain_problem}
-use Rattle.tl_run.specs.Answers.{Answer, past_range, judged_loop, IsRightAnswer, status_of, text_of}
+use Rattle.tl_run.specs.declared.status.Status.{Status}
+use Rattle.tl_run.specs.Answers.{JudgesLoop}
 use Rattle.tl_run.specs.CheckLoop.{loop_status}
-use Rattle.tl_run.specs.Commands.{check_loop}
-use Rattle.tl_run.specs.Inputs.{Input, a_loop}
-use Rattle.tl_run.specs.Promises.{Headline, IsCalmStatus, Yields}
+use Rattle.tl_run.specs.Commands.{Command, check_loop}
+use Rattle.tl_run.specs.Inputs.{a_loop}
+use Rattle.tl_run.specs.Promises.{Agrees, Headline, IsOwn}
 use Rattle.tl_run.specs.Turns.{HoldInput}
-use Rattle.tl_run.proofs.Agreement.{Agrees}
+use Rattle.tl_run.proofs.Agreement.{IsDone, from_range, same_given, to_range}
 use Rattle.tl_run.proofs.OneProblem.{SameProblem}
-use Rattle.tl_run.proofs.SameInputs.{SameInput}
 
 -- of the plan of one problem, one verdict is right
 one_verdict : OneLoopVerdict → (p q : Problem) (plan other : LoopPlan) (v w : LoopVerdict) → SameProblem p q → plan ≡ other → IsLoopVerdict (plain_problem p) plan.stem plan.cycle v → IsLoopVerdict (plain_problem q) other.stem other.cycle w → w ≡ v
 one_verdict law p q plan other v w same e h k =
     sym (law (plain_problem q) other.stem other.cycle v w (subst (λ (x : PlainProblem). IsLoopVerdict x other.stem other.cycle v) same.meaning (subst (λ (x : LoopPlan). IsLoopVerdict (plain_problem p) x.stem x.cycle v) e h)) k)
 
-yields_to_verdict : (after : ℕ) (note : RangeNote) (path : List Action) (v : LoopVerdict) → Yields (past_range after note path) (loop_status v)
-yields_to_verdict after note path Valid = tt
-yields_to_verdict after note path (NotExecutable n) = tt
-yields_to_verdict after note path NotClosed = tt
-yields_to_verdict after note path GoalUnmet = tt
-yields_to_verdict after note path Disobeys = tt
+verdict_done : (v : LoopVerdict) → IsDone (loop_status v)
+verdict_done Valid = tt
+verdict_done (NotExecutable n) = tt
+verdict_done NotClosed = tt
+verdict_done GoalUnmet = tt
+verdict_done Disobeys = tt
 
-judged_agrees : OneLoopVerdict → (d p q : List ℕ) (m : Problem) (plan : LoopPlan) (v : LoopVerdict) (y : Input) (b : Answer) → SameInput (a_loop m plan) y → IsLoopVerdict (plain_problem m) plan.stem plan.cycle v → IsRightAnswer (check_loop d p q) y b → Agrees (a_loop m plan) (judged_loop v) (status_of b) (text_of y b)
-judged_agrees law d p q m plan v (a_loop n other) (judged_loop w) same h k =
-    let e = one_verdict law m n plan other v w same.0 same.1 h k in
-    inl (ap loop_status e, ap loop_text e)
-judged_agrees law d p q m plan v (a_loop n other) (past_range after note path) same h k = inr tt
-judged_agrees law d p q m plan v y b same h k = absurd k
+pub check_loop_done : (status : Status) (text : List ℕ) (m : Problem) (plan : LoopPlan) → JudgesLoop status text m plan → IsDone status
+check_loop_done status text m plan (inl h) = subst IsDone (sym h.status_is) (verdict_done h.what)
+check_loop_done status text m plan (inr h) = subst IsDone (sym h.3) tt
 
-past_range_agrees : (d p q : List ℕ) (x y : Input) (after : ℕ) (note : RangeNote) (path : List Action) (b : Answer) → IsRightAnswer (check_loop d p q) y b → Agrees x (past_range after note path) (status_of b) (text_of y b)
-past_range_agrees d p q x (a_loop n other) after note path (judged_loop w) k = inr (yields_to_verdict after note path w)
-past_range_agrees d p q x (a_loop n other) after note path (past_range since told route) k = inr tt
-past_range_agrees d p q x y after note path b k = absurd k
-
--- of two right answers over the same input each agrees with the other
-pub check_loop_agrees : OneLoopVerdict → (d p q : List ℕ) (x y : Input) (a b : Answer) → SameInput x y → IsRightAnswer (check_loop d p q) x a → IsRightAnswer (check_loop d p q) y b → Agrees x a (status_of b) (text_of y b)
-check_loop_agrees law d p q (a_loop m plan) y (judged_loop v) b same h k = judged_agrees law d p q m plan v y b same h k
-check_loop_agrees law d p q (a_loop m plan) y (past_range after note path) b same h k = past_range_agrees d p q (a_loop m plan) y after note path b k
-check_loop_agrees law d p q x y a b same h k = absurd h
+-- of two right answers over the same plan each agrees with the other
+pub check_loop_agrees : OneLoopVerdict → (c : Command) (status given : Status) (text lines : List ℕ) (m n : Problem) (plan other : LoopPlan) → SameProblem m n → plan ≡ other → JudgesLoop status text m plan → JudgesLoop given lines n other → Agrees c status text given lines
+check_loop_agrees law c status given text lines m n plan other same e (inl h) (inl k) =
+    same_given c (IsLoopVerdict (plain_problem m) plan.stem plan.cycle) (IsLoopVerdict (plain_problem n) other.stem other.cycle) loop_status loop_text loop_text status given text lines h k
+    (one_verdict law m n plan other h.what k.what same e h.right k.right) refl
+check_loop_agrees law c status given text lines m n plan other same e h (inr k) = to_range c status given text lines (check_loop_done status text m plan h) k.3
+check_loop_agrees law c status given text lines m n plan other same e (inr h) k = from_range c status given text lines h.3 (check_loop_done given lines n other k)
 
 verdict_says : (files : Option Files) (d p q : List ℕ) (problem : Problem) (plan : LoopPlan) (v : LoopVerdict) (text : List ℕ) → HoldInput files (check_loop d p q) (a_loop problem plan) → IsLoopVerdict (plain_problem problem) plan.stem plan.cycle v → text ≡ loop_text v → Headline files (check_loop d p q) (loop_status v) text
 verdict_says files d p q problem plan Valid text stand right line = (problem, plan, stand, (right, line))
@@ -62,22 +55,20 @@ verdict_says files d p q problem plan GoalUnmet text stand right line = tt
 verdict_says files d p q problem plan Disobeys text stand right line = tt
 
 -- what the headline says of a right answer
-pub check_loop_says : (files : Option Files) (d p q : List ℕ) (x : Input) (a : Answer) (text : List ℕ) → HoldInput files (check_loop d p q) x → IsRightAnswer (check_loop d p q) x a → text ≡ text_of x a → Headline files (check_loop d p q) (status_of a) text
-check_loop_says files d p q (a_loop problem plan) (judged_loop v) text stand right line = verdict_says files d p q problem plan v text stand right line
-check_loop_says files d p q (a_loop problem plan) (past_range after note path) text stand right line = tt
-check_loop_says files d p q x a text stand right line = absurd right
+pub check_loop_says : (files : Option Files) (d p q : List ℕ) (status : Status) (text : List ℕ) (m : Problem) (plan : LoopPlan) → HoldInput files (check_loop d p q) (a_loop m plan) → JudgesLoop status text m plan → Headline files (check_loop d p q) status text
+check_loop_says files d p q status text m plan stand (inl h) =
+    subst (λ (s : Status). Headline files (check_loop d p q) s text) (sym h.status_is) (verdict_says files d p q m plan h.what text stand h.right h.text_is)
+check_loop_says files d p q status text m plan stand (inr h) = subst (λ (s : Status). Headline files (check_loop d p q) s text) (sym h.3) tt
 
-verdict_is_calm : (v : LoopVerdict) → IsCalmStatus (loop_status v)
-verdict_is_calm Valid = tt
-verdict_is_calm (NotExecutable n) = tt
-verdict_is_calm NotClosed = tt
-verdict_is_calm GoalUnmet = tt
-verdict_is_calm Disobeys = tt
+verdict_is_own : (v : LoopVerdict) → IsOwn (loop_status v)
+verdict_is_own Valid = tt
+verdict_is_own (NotExecutable n) = tt
+verdict_is_own NotClosed = tt
+verdict_is_own GoalUnmet = tt
+verdict_is_own Disobeys = tt
 
 -- where nothing past range is looked at, no right answer has the status Range
-pub check_loop_calm : (d p q : List ℕ) (problem : Problem) (plan : LoopPlan) (x : Input) (a : Answer) → SameInput (a_loop problem plan) x → ((after : ℕ) (note : RangeNote) → ¬ IsLoopCause (plain_problem problem) plan.stem plan.cycle (fault.Range after note)) → IsRightAnswer (check_loop d p q) x a → IsCalmStatus (status_of a)
-check_loop_calm d p q problem plan (a_loop other parts) (judged_loop v) same calm right = verdict_is_calm v
-check_loop_calm d p q problem plan (a_loop other parts) (past_range after note path) same calm right =
-    let m = same.0 in
-    absurd (calm after note (subst (λ (u : PlainProblem). IsLoopCause u plan.stem plan.cycle (fault.Range after note)) (sym m.meaning) (subst (λ (u : LoopPlan). IsLoopCause (plain_problem other) u.stem u.cycle (fault.Range after note)) (sym same.1) right.0)))
-check_loop_calm d p q problem plan x a same calm right = absurd right
+pub check_loop_calm : (status : Status) (text : List ℕ) (m n : Problem) (plan other : LoopPlan) → SameProblem m n → plan ≡ other → ((after : ℕ) (note : RangeNote) → ¬ IsLoopCause (plain_problem m) plan.stem plan.cycle (fault.Range after note)) → JudgesLoop status text n other → IsOwn status
+check_loop_calm status text m n plan other same e calm (inl h) = subst IsOwn (sym h.status_is) (verdict_is_own h.what)
+check_loop_calm status text m n plan other same e calm (inr h) =
+    absurd (calm h.0 h.1 (subst (λ (u : PlainProblem). IsLoopCause u plan.stem plan.cycle (fault.Range h.0 h.1)) (sym same.meaning) (subst (λ (u : LoopPlan). IsLoopCause (plain_problem n) u.stem u.cycle (fault.Range h.0 h.1)) (sym e) h.2)))

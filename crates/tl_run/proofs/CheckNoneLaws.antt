@@ -1,5 +1,5 @@
 -- Laws of the right answers of `check-none`.
-use Rattle.std.proofs.Common.{◌≡◌, inl, inr, ℕ, List, sym, ap, ◌∙◌, subst}
+use Rattle.std.proofs.Common.{◌≡◌, inl, inr, ℕ, List, sym, ◌∙◌, subst}
 use Rattle.std.specs.Prelude.{Option}
 use Rattle.tl_cert.specs.Causes.{IsNoneCause}
 use Rattle.tl_cert.specs.Laws.{OneNoneVerdict}
@@ -15,16 +15,16 @@ use Rattle.tl_syntax.specs.declared.action.Action.{Action}
 use Rattle.tl_syntax.specs.declared.problem.Problem.{Problem}
 use Rattle.tl_terms.specs.Problem.{PlainProblem}
 use Rattle.tl_terms.specs.ProblemMeaning.{plain_problem}
-use Rattle.tl_run.specs.Answers.{Answer, past_range, judged_proof, IsRightAnswer, status_of, text_of}
+use Rattle.tl_run.specs.declared.status.Status.{Status}
+use Rattle.tl_run.specs.Answers.{JudgesProof}
 use Rattle.tl_run.specs.CheckNone.{none_status}
-use Rattle.tl_run.specs.Commands.{check_none}
-use Rattle.tl_run.specs.Inputs.{Input, a_proof}
+use Rattle.tl_run.specs.Commands.{Command, check_none}
+use Rattle.tl_run.specs.Inputs.{a_proof}
 use Rattle.tl_run.specs.Laws.{Laws}
-use Rattle.tl_run.specs.Promises.{Headline, IsCalmStatus, Yields}
+use Rattle.tl_run.specs.Promises.{Agrees, Headline, IsOwn}
 use Rattle.tl_run.specs.Turns.{HoldInput}
-use Rattle.tl_run.proofs.Agreement.{Agrees}
+use Rattle.tl_run.proofs.Agreement.{IsDone, from_range, same_given, to_range}
 use Rattle.tl_run.proofs.OneProblem.{SameProblem}
-use Rattle.tl_run.proofs.SameInputs.{SameInput}
 use Rattle.tl_run.proofs.SameProofs.{same_none_text}
 
 -- of the proof of one problem, one verdict is right
@@ -33,35 +33,30 @@ one_verdict law p q proof other v w same e h k =
     sym (law (plain_problem q) other v w (subst (λ (x : PlainProblem). IsNoneVerdict x other v) same.meaning (subst (λ (x : Proof). IsNoneVerdict (plain_problem p) x v) e h)) k)
 
 -- and it has one line
-one_line : (m n : Problem) (proof other : Proof) (v w : NoneVerdict) → SameProblem m n → proof ≡ other → w ≡ v → proof_verdict_text n.names n.domain.operators other.bound w ≡ proof_verdict_text m.names m.domain.operators proof.bound v
-one_line m n proof other v w same e is =
+one_line : (m n : Problem) (proof other : Proof) (v : NoneVerdict) → SameProblem m n → proof ≡ other → proof_verdict_text n.names n.domain.operators other.bound v ≡ proof_verdict_text m.names m.domain.operators proof.bound v
+one_line m n proof other v same e =
     let names = sym same.names in
     let back = sym e in
-    (λ i. proof_verdict_text (names i) n.domain.operators (back i).bound (is i)) ∙ same_none_text m.names n.domain.operators m.domain.operators (sym same.heads) proof.bound v
+    (λ i. proof_verdict_text (names i) n.domain.operators (back i).bound v) ∙ same_none_text m.names n.domain.operators m.domain.operators (sym same.heads) proof.bound v
 
-yields_to_verdict : (after : ℕ) (note : RangeNote) (path : List Action) (v : NoneVerdict) → Yields (past_range after note path) (none_status v)
-yields_to_verdict after note path Proved = tt
-yields_to_verdict after note path (BadLink k) = tt
-yields_to_verdict after note path (Accepts k) = tt
-yields_to_verdict after note path (Open k a) = tt
+verdict_done : (v : NoneVerdict) → IsDone (none_status v)
+verdict_done Proved = tt
+verdict_done (BadLink k) = tt
+verdict_done (Accepts k) = tt
+verdict_done (Open k a) = tt
 
-judged_agrees : OneNoneVerdict → (d p q : List ℕ) (m : Problem) (proof : Proof) (v : NoneVerdict) (y : Input) (b : Answer) → SameInput (a_proof m proof) y → IsNoneVerdict (plain_problem m) proof v → IsRightAnswer (check_none d p q) y b → Agrees (a_proof m proof) (judged_proof v) (status_of b) (text_of y b)
-judged_agrees law d p q m proof v (a_proof n other) (judged_proof w) same h k =
-    let e = one_verdict law m n proof other v w same.0 same.1 h k in
-    inl (ap none_status e, one_line m n proof other v w same.0 same.1 e)
-judged_agrees law d p q m proof v (a_proof n other) (past_range after note path) same h k = inr tt
-judged_agrees law d p q m proof v y b same h k = absurd k
+pub check_none_done : (status : Status) (text : List ℕ) (m : Problem) (proof : Proof) → JudgesProof status text m proof → IsDone status
+check_none_done status text m proof (inl h) = subst IsDone (sym h.status_is) (verdict_done h.what)
+check_none_done status text m proof (inr h) = subst IsDone (sym h.3) tt
 
-past_range_agrees : (d p q : List ℕ) (x y : Input) (after : ℕ) (note : RangeNote) (path : List Action) (b : Answer) → IsRightAnswer (check_none d p q) y b → Agrees x (past_range after note path) (status_of b) (text_of y b)
-past_range_agrees d p q x (a_proof n other) after note path (judged_proof w) k = inr (yields_to_verdict after note path w)
-past_range_agrees d p q x (a_proof n other) after note path (past_range since told route) k = inr tt
-past_range_agrees d p q x y after note path b k = absurd k
-
--- of two right answers over the same input each agrees with the other
-pub check_none_agrees : OneNoneVerdict → (d p q : List ℕ) (x y : Input) (a b : Answer) → SameInput x y → IsRightAnswer (check_none d p q) x a → IsRightAnswer (check_none d p q) y b → Agrees x a (status_of b) (text_of y b)
-check_none_agrees law d p q (a_proof m proof) y (judged_proof v) b same h k = judged_agrees law d p q m proof v y b same h k
-check_none_agrees law d p q (a_proof m proof) y (past_range after note path) b same h k = past_range_agrees d p q (a_proof m proof) y after note path b k
-check_none_agrees law d p q x y a b same h k = absurd h
+-- of two right answers over the same proof each agrees with the other
+pub check_none_agrees : OneNoneVerdict → (c : Command) (status given : Status) (text lines : List ℕ) (m n : Problem) (proof other : Proof) → SameProblem m n → proof ≡ other → JudgesProof status text m proof → JudgesProof given lines n other → Agrees c status text given lines
+check_none_agrees law c status given text lines m n proof other same e (inl h) (inl k) =
+    same_given c (IsNoneVerdict (plain_problem m) proof) (IsNoneVerdict (plain_problem n) other) none_status
+    (proof_verdict_text m.names m.domain.operators proof.bound) (proof_verdict_text n.names n.domain.operators other.bound) status given text lines h k
+    (one_verdict law m n proof other h.what k.what same e h.right k.right) (one_line m n proof other h.what same e)
+check_none_agrees law c status given text lines m n proof other same e h (inr k) = to_range c status given text lines (check_none_done status text m proof h) k.3
+check_none_agrees law c status given text lines m n proof other same e (inr h) k = from_range c status given text lines h.3 (check_none_done given lines n other k)
 
 verdict_says : Laws → (files : Option Files) (d p q : List ℕ) (problem : Problem) (proof : Proof) (v : NoneVerdict) (text : List ℕ) → HoldInput files (check_none d p q) (a_proof problem proof) → IsNoneVerdict (plain_problem problem) proof v → text ≡ proof_verdict_text problem.names problem.domain.operators proof.bound v → Headline files (check_none d p q) (none_status v) text
 verdict_says laws files d p q problem proof Proved text stand right line =
@@ -71,21 +66,19 @@ verdict_says laws files d p q problem proof (Accepts k) text stand right line = 
 verdict_says laws files d p q problem proof (Open k a) text stand right line = tt
 
 -- what the headline says of a right answer
-pub check_none_says : Laws → (files : Option Files) (d p q : List ℕ) (x : Input) (a : Answer) (text : List ℕ) → HoldInput files (check_none d p q) x → IsRightAnswer (check_none d p q) x a → text ≡ text_of x a → Headline files (check_none d p q) (status_of a) text
-check_none_says laws files d p q (a_proof problem proof) (judged_proof v) text stand right line = verdict_says laws files d p q problem proof v text stand right line
-check_none_says laws files d p q (a_proof problem proof) (past_range after note path) text stand right line = tt
-check_none_says laws files d p q x a text stand right line = absurd right
+pub check_none_says : Laws → (files : Option Files) (d p q : List ℕ) (status : Status) (text : List ℕ) (m : Problem) (proof : Proof) → HoldInput files (check_none d p q) (a_proof m proof) → JudgesProof status text m proof → Headline files (check_none d p q) status text
+check_none_says laws files d p q status text m proof stand (inl h) =
+    subst (λ (s : Status). Headline files (check_none d p q) s text) (sym h.status_is) (verdict_says laws files d p q m proof h.what text stand h.right h.text_is)
+check_none_says laws files d p q status text m proof stand (inr h) = subst (λ (s : Status). Headline files (check_none d p q) s text) (sym h.3) tt
 
-verdict_is_calm : (v : NoneVerdict) → IsCalmStatus (none_status v)
-verdict_is_calm Proved = tt
-verdict_is_calm (BadLink k) = tt
-verdict_is_calm (Accepts k) = tt
-verdict_is_calm (Open k a) = tt
+verdict_is_own : (v : NoneVerdict) → IsOwn (none_status v)
+verdict_is_own Proved = tt
+verdict_is_own (BadLink k) = tt
+verdict_is_own (Accepts k) = tt
+verdict_is_own (Open k a) = tt
 
 -- where nothing past range is looked at, no right answer has the status Range
-pub check_none_calm : (d p q : List ℕ) (problem : Problem) (proof : Proof) (x : Input) (a : Answer) → SameInput (a_proof problem proof) x → ((path : List Action) (note : RangeNote) → ¬ IsNoneCause (plain_problem problem) proof.bound proof.links path (operation_of note)) → IsRightAnswer (check_none d p q) x a → IsCalmStatus (status_of a)
-check_none_calm d p q problem proof (a_proof n other) (judged_proof v) same calm right = verdict_is_calm v
-check_none_calm d p q problem proof (a_proof n other) (past_range after note path) same calm right =
-    let m = same.0 in
-    absurd (calm path note (subst (λ (u : PlainProblem). IsNoneCause u proof.bound proof.links path (operation_of note)) (sym m.meaning) (subst (λ (u : Proof). IsNoneCause (plain_problem n) u.bound u.links path (operation_of note)) (sym same.1) right.0)))
-check_none_calm d p q problem proof x a same calm right = absurd right
+pub check_none_calm : (status : Status) (text : List ℕ) (m n : Problem) (proof other : Proof) → SameProblem m n → proof ≡ other → ((path : List Action) (note : RangeNote) → ¬ IsNoneCause (plain_problem m) proof.bound proof.links path (operation_of note)) → JudgesProof status text n other → IsOwn status
+check_none_calm status text m n proof other same e calm (inl h) = subst IsOwn (sym h.status_is) (verdict_is_own h.what)
+check_none_calm status text m n proof other same e calm (inr h) =
+    absurd (calm h.0 h.1 (subst (λ (u : PlainProblem). IsNoneCause u proof.bound proof.links h.0 (operation_of h.1)) (sym same.meaning) (subst (λ (u : Proof). IsNoneCause (plain_problem n) u.bound u.links h.0 (operation_of h.1)) (sym e) h.2)))

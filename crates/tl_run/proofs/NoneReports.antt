@@ -24,7 +24,6 @@ use Rattle.tl_run.specs.declared.search.Mode.{Mode}
 use Rattle.tl_run.specs.declared.search.Mode.TheVariants.{Breadth}
 use Rattle.tl_run.specs.declared.search.Search.{Search}
 use Rattle.tl_run.specs.declared.status.Status.TheVariants.{Yes}
-use Rattle.tl_run.specs.Answers.{certified}
 use Rattle.tl_run.specs.Commands.{prove_none}
 use Rattle.tl_run.specs.Inputs.{a_problem}
 use Rattle.tl_run.specs.ProveNone.{IsBoundOf}
@@ -130,19 +129,20 @@ bound_is n outcome.Spent none = absurd none
 -- the reply with the proof
 pub certificate_replied : (s : Search) (d p : List ℕ) (problem : Problem) (kept : List KeptPair) (report : Report) (proof : Proof) (text : List ℕ) → IsTraceReport s (plain_problem problem) kept report → FindsNone report.outcome → Covers (plain_problem problem) proof → proof.bound ≡ bound_of s.within report.outcome → StartBefore 0 proof.links → length proof.links ≤ 100000 → LinksFit proof.links → text ≡ proof_text problem.names problem.domain.operators proof → Replies (prove_none s d p) (a_problem problem) (record { status = Yes; text = text })
 certificate_replied s d p problem kept report proof text right none covers bound order few fit line = record {
-  answer = certified s proof;
-  fits = fit;
-  right = (
-    refl,
-    record {
-      ended = report.outcome;
-      right = trace_outcome s (plain_problem problem) kept report.events report.outcome right;
-      bound = subst (λ (b : Option ℕ). IsBoundOf s.within report.outcome b) (sym bound) (bound_is s.within report.outcome none);
-      covers = covers;
-      order = order;
-      few = few;
-    },
-  );
-  status_is = refl;
-  text_is = line;
+  right = inl (record {
+    what = proof;
+    right = (
+      record {
+        ended = report.outcome;
+        right = trace_outcome s (plain_problem problem) kept report.events report.outcome right;
+        bound = subst (λ (b : Option ℕ). IsBoundOf s.within report.outcome b) (sym bound) (bound_is s.within report.outcome none);
+        covers = covers;
+        order = order;
+        few = few;
+      },
+      λ asked. fit,
+    );
+    status_is = refl;
+    text_is = line;
+  });
 }

@@ -17,7 +17,7 @@ use Rattle.tl_run.specs.declared.search.Mode.TheVariants.{Breadth, Depth}
 use Rattle.tl_run.specs.Answers.{outcome_status}
 use Rattle.tl_run.specs.Laws.{Laws}
 use Rattle.tl_run.specs.Plan.{IsRightOutcome, IsOutcomeIn}
-use Rattle.tl_run.specs.Promises.{OutcomeYields, IsCalmStatus}
+use Rattle.tl_run.specs.Promises.{GivesWay, IsOwn}
 
 -- of the shortest accepted plans one is the first
 one_plan : PlanOrderIsTotal → (p : PlainProblem) (n : ℕ) (u v : List Action) → IsFirstShortestPlan p n u → IsFirstShortestPlan p n v → v ≡ u
@@ -58,9 +58,9 @@ one_simple_plan law p n u v h k = by_order (plan_cmp v u) refl
 simple_plan_within : (p : PlainProblem) (n : ℕ) (plan : List Action) → IsFirstSimplePlan p n plan → IsPlanWithin p n plan
 simple_plan_within p n plan h = let leading = h.leading in record { short = leading.short; accepted = h.accepted }
 
--- the second outcome is the first, or this yields to it
+-- the second outcome is the first, or this gives way to it
 abbrev pub IsOneOrYields : Outcome → Outcome → Type 0
-IsOneOrYields o u = (u ≡ o) ⊎ OutcomeYields o (outcome_status u)
+IsOneOrYields o u = (u ≡ o) ⊎ GivesWay (outcome_status o) (outcome_status u)
 
 module _ (laws : Laws) (GivesPlan : List Action → Type 0) (SpendsPairs : List Pair → Type 0) (n b : ℕ) (p : PlainProblem)
     (one : (u v : List Action) → GivesPlan u → GivesPlan v → v ≡ u) (within : (u : List Action) → GivesPlan u → IsPlanWithin p n u) where
@@ -90,14 +90,14 @@ pub one_outcome : Laws → (m : Mode) (n b : ℕ) (p : PlainProblem) (o u : Outc
 one_outcome laws Breadth n b p o u h k = one_right laws (IsFirstShortestPlan p n) (IsSpentBreadthFirst p b) n b p (one_plan laws.orders p n) (λ plan f. f.within) o u h k
 one_outcome laws Depth n b p o u h k = one_right laws (IsFirstSimplePlan p n) (IsSpentDepthFirst p n) n b p (one_simple_plan laws.orders p n) (simple_plan_within p n) o u h k
 
-calm_right : Laws → (GivesPlan : List Action → Type 0) (SpendsPairs : List Pair → Type 0) (n b : ℕ) (p : PlainProblem) (o : Outcome) → HasFewPairs p n b → IsRightOutcome GivesPlan SpendsPairs n b p o → IsCalmStatus (outcome_status o)
+calm_right : Laws → (GivesPlan : List Action → Type 0) (SpendsPairs : List Pair → Type 0) (n b : ℕ) (p : PlainProblem) (o : Outcome) → HasFewPairs p n b → IsRightOutcome GivesPlan SpendsPairs n b p o → IsOwn (outcome_status o)
 calm_right laws GivesPlan SpendsPairs n b p (outcome.Plan plan) few h = tt
 calm_right laws GivesPlan SpendsPairs n b p outcome.NoPlan few h = tt
 calm_right laws GivesPlan SpendsPairs n b p outcome.NoneWithin few h = tt
 calm_right laws GivesPlan SpendsPairs n b p outcome.Spent few h = absurd (laws.few_pairs p n b h.0 few h.1)
 
 -- with few search nodes the search is not spent: one line for each mode
-pub calm_outcome : Laws → (m : Mode) (n b : ℕ) (p : PlainProblem) (o : Outcome) → HasFewPairs p n b → IsOutcomeIn m n b p o → IsCalmStatus (outcome_status o)
+pub calm_outcome : Laws → (m : Mode) (n b : ℕ) (p : PlainProblem) (o : Outcome) → HasFewPairs p n b → IsOutcomeIn m n b p o → IsOwn (outcome_status o)
 calm_outcome laws Breadth n b p o few h = calm_right laws (IsFirstShortestPlan p n) (IsSpentBreadthFirst p b) n b p o few h
 calm_outcome laws Depth n b p o few h = calm_right laws (IsFirstSimplePlan p n) (IsSpentDepthFirst p n) n b p o few h
 

@@ -1,99 +1,59 @@
 -- What follows from an answer that the files allow.
-use Rattle.std.proofs.Common.{◌≡◌, ◌⊎◌, inl, inr, ℕ, List, [], true≢false, refl, sym, ap, ◌∙◌, subst}
-use Rattle.std.specs.Prelude.{Option, Some, None}
+use Rattle.std.proofs.Common.{◌≡◌, inl, inr, ℕ, List, [], true, false, true≢false, sym, ◌∙◌, subst}
+use Rattle.std.specs.Prelude.{Bool, Option, Some, None}
 use Rattle.std.specs.FinMap as dict
-use Rattle.tl_cert.specs.declared.verdict.NoneVerdict.{NoneVerdict}
-use Rattle.tl_cert.specs.declared.verdict.NoneVerdict.TheVariants.{Proved, BadLink, Accepts, Open}
-use Rattle.tl_check.specs.declared.verdict.Verdict.{Verdict}
-use Rattle.tl_check.specs.declared.verdict.Verdict.TheVariants.{Valid, NotExecutable, GoalUnmet, Disobeys}
-use Rattle.tl_cost.specs.declared.outcome.CostOutcome.{CostOutcome}
-use Rattle.tl_cost.specs.declared.outcome.CostOutcome.TheVariants as costs
-use Rattle.tl_lasso.specs.declared.verdict.LoopVerdict.{LoopVerdict}
-use Rattle.tl_lasso.specs.declared.verdict.LoopVerdict.TheVariants as loop
+use Rattle.tl_cert.specs.declared.proof.Proof.{Proof}
+use Rattle.tl_lasso.specs.declared.plan.LoopPlan.{LoopPlan}
 use Rattle.tl_outside.specs.Told.{Files}
-use Rattle.tl_search.specs.declared.outcome.Outcome.{Outcome}
-use Rattle.tl_search.specs.declared.outcome.Outcome.TheVariants as outcome
+use Rattle.tl_syntax.specs.declared.action.Action.{Action}
+use Rattle.tl_syntax.specs.declared.problem.Problem.{Problem}
 use Rattle.tl_run.specs.declared.status.Status.{Status}
-use Rattle.tl_run.specs.declared.status.Status.TheVariants.{Refused}
+use Rattle.tl_run.specs.declared.status.Status.TheVariants.{Yes, No, Spent, Refused, Range}
 use Rattle.tl_run.specs.declared.stop.Broken.{Broken}
-use Rattle.tl_run.specs.Answers.{Answer, refusal, past_range, judged, searched, traced, IsRightAnswer, status_of, text_of, outcome_status, verdict_status, explained, certified, unproved, judged_proof, sampled, costed, judged_loop}
-use Rattle.tl_run.specs.CheckLoop.{loop_status}
-use Rattle.tl_run.specs.CheckNone.{none_status}
+use Rattle.tl_run.specs.Answers.{Answers}
 use Rattle.tl_run.specs.Commands.{Command, check, search, trace, explain, prove_none, check_none, sample, cheapest, check_loop}
 use Rattle.tl_run.specs.Inputs.{Input, a_problem, a_plan, a_proof, some_costs, a_loop}
-use Rattle.tl_run.specs.Cheapest.{cost_status}
 use Rattle.tl_run.specs.Laws.{Laws}
-use Rattle.tl_run.specs.Promises.{Allows, AreTold, Headline, IsAnswer, IsCalmCommand, IsCalmStatus, IsTextOf}
-use Rattle.tl_run.specs.ProveNone.{unproved_status}
+use Rattle.tl_run.specs.Promises.{Agrees, Allows, AnswersRightly, AreTold, Headline, IsAnswer, IsCalmCommand, IsOnlyAnswer, IsOwn, Refuses}
 use Rattle.tl_run.specs.Refusals.{refusal_text}
 use Rattle.tl_run.specs.Replies.{HasLines}
-use Rattle.tl_run.specs.Turns.{CallsTold, HoldInput, IsRefused}
-use Rattle.tl_run.proofs.Agreement.{Agrees}
-use Rattle.tl_run.proofs.CheapestLaws.{cheapest_agrees, cheapest_calm, cheapest_says}
-use Rattle.tl_run.proofs.CheckLaws.{check_agrees, check_calm, check_says}
-use Rattle.tl_run.proofs.CheckLoopLaws.{check_loop_agrees, check_loop_calm, check_loop_says}
-use Rattle.tl_run.proofs.CheckNoneLaws.{check_none_agrees, check_none_calm, check_none_says}
-use Rattle.tl_run.proofs.ExplainLaws.{explain_agrees, explain_calm, explain_says}
+use Rattle.tl_run.specs.Turns.{CallsTold, HoldInput}
+use Rattle.tl_run.proofs.Agreement.{IsDone}
+use Rattle.tl_run.proofs.CheapestLaws.{cheapest_agrees, cheapest_calm, cheapest_done, cheapest_says}
+use Rattle.tl_run.proofs.CheckLaws.{check_agrees, check_calm, check_done, check_says}
+use Rattle.tl_run.proofs.CheckLoopLaws.{check_loop_agrees, check_loop_calm, check_loop_done, check_loop_says}
+use Rattle.tl_run.proofs.CheckNoneLaws.{check_none_agrees, check_none_calm, check_none_done, check_none_says}
+use Rattle.tl_run.proofs.ExplainLaws.{explain_agrees, explain_calm, explain_done, explain_says}
 use Rattle.tl_run.proofs.InTurn.{no_refusal, one_input, one_refusal}
-use Rattle.tl_run.proofs.ProveNoneLaws.{prove_none_agrees, prove_none_calm, prove_none_says}
-use Rattle.tl_run.proofs.SameInputs.{SameInput}
-use Rattle.tl_run.proofs.SampleLaws.{sample_agrees, sample_calm, sample_says}
-use Rattle.tl_run.proofs.SearchLaws.{search_agrees, search_calm, search_says}
-use Rattle.tl_run.proofs.TraceLaws.{trace_agrees, trace_calm, trace_says}
+use Rattle.tl_run.proofs.OneProblem.{SameProblem}
+use Rattle.tl_run.proofs.ProveNoneLaws.{prove_none_agrees, prove_none_calm, prove_none_done, prove_none_says}
+use Rattle.tl_run.proofs.SampleLaws.{sample_agrees, sample_calm, sample_done, sample_says}
+use Rattle.tl_run.proofs.SearchLaws.{search_agrees, search_calm, search_done, search_says}
+use Rattle.tl_run.proofs.TraceLaws.{trace_agrees, trace_calm, trace_done, trace_says}
 
-verdict_has_lines : (v : Verdict) → HasLines (verdict_status v)
-verdict_has_lines Valid = tt
-verdict_has_lines (NotExecutable n) = tt
-verdict_has_lines GoalUnmet = tt
-verdict_has_lines Disobeys = tt
+-- the status of what is right over all files: one line for each command
+answer_done : (fits : Bool) (files : Option Files) (c : Command) (status : Status) (text : List ℕ) → Answers fits files c status text → IsDone status
+answer_done fits files (check d p q) status text h = check_done status text h.0 h.1 h.3
+answer_done fits files (search s d p) status text h = search_done fits s status text h.0 h.2
+answer_done fits files (trace s d p) status text h = trace_done fits s status text h.0 h.2
+answer_done fits files (explain d p q) status text h = explain_done status text h.0 h.1 h.3
+answer_done fits files (prove_none s d p) status text h = prove_none_done fits s status text h.0 h.2
+answer_done fits files (check_none d p q) status text h = check_none_done status text h.0 h.1 h.3
+answer_done fits files (sample m) status text h = sample_done m status text h.0 h.2
+answer_done fits files (cheapest b d p k) status text h = cheapest_done b status text h.0 h.1 h.3
+answer_done fits files (check_loop d p q) status text h = check_loop_done status text h.0 h.1 h.3
 
-outcome_has_lines : (o : Outcome) → HasLines (outcome_status o)
-outcome_has_lines (outcome.Plan plan) = tt
-outcome_has_lines outcome.NoPlan = tt
-outcome_has_lines outcome.NoneWithin = tt
-outcome_has_lines outcome.Spent = tt
-
-unproved_has_lines : (o : Outcome) → HasLines (unproved_status o)
-unproved_has_lines (outcome.Plan plan) = tt
-unproved_has_lines outcome.NoPlan = tt
-unproved_has_lines outcome.NoneWithin = tt
-unproved_has_lines outcome.Spent = tt
-
-proof_has_lines : (v : NoneVerdict) → HasLines (none_status v)
-proof_has_lines Proved = tt
-proof_has_lines (BadLink k) = tt
-proof_has_lines (Accepts k) = tt
-proof_has_lines (Open k a) = tt
-
-cost_has_lines : (o : CostOutcome) → HasLines (cost_status o)
-cost_has_lines (costs.Plan plan cost) = tt
-cost_has_lines costs.NoPlan = tt
-cost_has_lines costs.Spent = tt
-
-loop_has_lines : (v : LoopVerdict) → HasLines (loop_status v)
-loop_has_lines loop.Valid = tt
-loop_has_lines (loop.NotExecutable n) = tt
-loop_has_lines loop.NotClosed = tt
-loop_has_lines loop.GoalUnmet = tt
-loop_has_lines loop.Disobeys = tt
-
-answer_has_lines : (a : Answer) → HasLines (status_of a)
-answer_has_lines (refusal number m) = tt
-answer_has_lines (past_range after note path) = tt
-answer_has_lines (judged v) = verdict_has_lines v
-answer_has_lines (searched s o) = outcome_has_lines o
-answer_has_lines (traced s kept events o) = outcome_has_lines o
-answer_has_lines explained = tt
-answer_has_lines (certified s proof) = tt
-answer_has_lines (unproved s o) = unproved_has_lines o
-answer_has_lines (judged_proof v) = proof_has_lines v
-answer_has_lines (sampled n kept o v) = tt
-answer_has_lines (costed b o) = cost_has_lines o
-answer_has_lines (judged_loop v) = loop_has_lines v
+done_has_lines : (status : Status) → IsDone status → HasLines status
+done_has_lines Yes done = tt
+done_has_lines No done = tt
+done_has_lines Spent done = tt
+done_has_lines Range done = tt
+done_has_lines status done = absurd done
 
 -- the status of an answer comes with lines
 pub has_lines : (files : Option Files) (c : Command) (told : CallsTold) (status : Status) (text : List ℕ) → IsAnswer files c told status text → HasLines status
-has_lines files c told status text h = subst HasLines (sym h.status_is) (answer_has_lines h.answer)
+has_lines files c told status text (inl h) = done_has_lines status (answer_done true files c status text h)
+has_lines files c told status text (inr h) = let refuses = h.2 in subst HasLines (sym refuses.1) tt
 
 -- what the headline says of a refusal: nothing, one line for each command
 refused_says : (files : Option Files) (c : Command) (text : List ℕ) → Headline files c Refused text
@@ -108,98 +68,100 @@ refused_says files (cheapest b d p k) text = tt
 refused_says files (check_loop d p q) text = tt
 
 -- what it says of a right answer: one line for each command
-right_says : Laws → (files : Option Files) (c : Command) (x : Input) (a : Answer) (text : List ℕ) → HoldInput files c x → IsRightAnswer c x a → text ≡ text_of x a → Headline files c (status_of a) text
-right_says laws files (check d p q) x a text stand right line = check_says files d p q x a text stand right line
-right_says laws files (search s d p) x a text stand right line = search_says files s d p x a text stand right line
-right_says laws files (trace s d p) x a text stand right line = trace_says files s d p x a text stand right line
-right_says laws files (explain d p q) x a text stand right line = explain_says files d p q x a text stand right line
-right_says laws files (prove_none s d p) x a text stand right line = prove_none_says laws files s d p x a text stand right line
-right_says laws files (check_none d p q) x a text stand right line = check_none_says laws files d p q x a text stand right line
-right_says laws files (sample m) x a text stand right line = sample_says laws files m x a text stand right line
-right_says laws files (cheapest b d p k) x a text stand right line = cheapest_says files b d p k x a text stand right line
-right_says laws files (check_loop d p q) x a text stand right line = check_loop_says files d p q x a text stand right line
+right_says : Laws → (files : Option Files) (c : Command) (status : Status) (text : List ℕ) → Answers true files c status text → Headline files c status text
+right_says laws files (check d p q) status text h = check_says files d p q status text h.0 h.1 h.2 h.3
+right_says laws files (search s d p) status text h = search_says files s d p status text h.0 h.1 h.2
+right_says laws files (trace s d p) status text h = trace_says files s d p status text h.0 h.1 h.2
+right_says laws files (explain d p q) status text h = explain_says files d p q status text h.0 h.1 h.2 h.3
+right_says laws files (prove_none s d p) status text h = prove_none_says laws files s d p status text h.0 h.1 h.2
+right_says laws files (check_none d p q) status text h = check_none_says laws files d p q status text h.0 h.1 h.2 h.3
+right_says laws files (sample m) status text h = sample_says laws files m status text h.0 h.1 h.2
+right_says laws files (cheapest b d p k) status text h = cheapest_says files b d p k status text h.0 h.1 h.2 h.3
+right_says laws files (check_loop d p q) status text h = check_loop_says files d p q status text h.0 h.1 h.2 h.3
 
-allowed_says : Laws → (files : Option Files) (c : Command) (x : Input) (a : Answer) (text : List ℕ) → Allows files c x a → text ≡ text_of x a → Headline files c (status_of a) text
-allowed_says laws files c x (refusal number m) text allowed line = refused_says files c text
-allowed_says laws files c x (past_range after note path) text allowed line = right_says laws files c x (past_range after note path) text allowed.0 allowed.1 line
-allowed_says laws files c x (judged v) text allowed line = right_says laws files c x (judged v) text allowed.0 allowed.1 line
-allowed_says laws files c x (searched s o) text allowed line = right_says laws files c x (searched s o) text allowed.0 allowed.1 line
-allowed_says laws files c x (traced s kept events o) text allowed line = right_says laws files c x (traced s kept events o) text allowed.0 allowed.1 line
-allowed_says laws files c x explained text allowed line = right_says laws files c x explained text allowed.0 allowed.1 line
-allowed_says laws files c x (certified s proof) text allowed line = right_says laws files c x (certified s proof) text allowed.0 allowed.1 line
-allowed_says laws files c x (unproved s o) text allowed line = right_says laws files c x (unproved s o) text allowed.0 allowed.1 line
-allowed_says laws files c x (judged_proof v) text allowed line = right_says laws files c x (judged_proof v) text allowed.0 allowed.1 line
-allowed_says laws files c x (sampled n kept o v) text allowed line = right_says laws files c x (sampled n kept o v) text allowed.0 allowed.1 line
-allowed_says laws files c x (costed b o) text allowed line = right_says laws files c x (costed b o) text allowed.0 allowed.1 line
-allowed_says laws files c x (judged_loop v) text allowed line = right_says laws files c x (judged_loop v) text allowed.0 allowed.1 line
+headline_of : Laws → (files : Option Files) (c : Command) (told : CallsTold) (status : Status) (text : List ℕ) → IsAnswer files c told status text → Headline files c status text
+headline_of laws files c told status text (inl h) = right_says laws files c status text h
+headline_of laws files c told status text (inr h) =
+    let refuses = h.2 in subst (λ (s : Status). Headline files c s text) (sym refuses.1) (refused_says files c text)
 
--- an answer that the files allow says what the headline says
-pub headline_of : Laws → (files : Option Files) (c : Command) (told : CallsTold) (status : Status) (text : List ℕ) → IsAnswer files c told status text → Headline files c status text
-headline_of laws files c told status text h = subst (λ (s : Status). Headline files c s text) (sym h.status_is) (allowed_says laws files c h.input h.answer text h.allowed h.text_is)
+-- files stand for one problem, and for one thing besides
 
--- two right answers over the same input: one line for each command
-right_agrees : Laws → (c : Command) (x y : Input) (a b : Answer) → SameInput x y → IsRightAnswer c x a → IsRightAnswer c y b → Agrees x a (status_of b) (text_of y b)
-right_agrees laws (check d p q) x y a b same h k = check_agrees laws.verdicts d p q x y a b same h k
-right_agrees laws (search s d p) x y a b same h k = search_agrees laws s d p x y a b same h k
-right_agrees laws (trace s d p) x y a b same h k = trace_agrees laws s d p x y a b same h k
-right_agrees laws (explain d p q) x y a b same h k = explain_agrees d p q x y a b same h k
-right_agrees laws (prove_none s d p) x y a b same h k = prove_none_agrees laws s d p x y a b same h k
-right_agrees laws (check_none d p q) x y a b same h k = check_none_agrees laws.none_verdicts d p q x y a b same h k
-right_agrees laws (sample m) x y a b same h k = sample_agrees laws m x y a b same h k
-right_agrees laws (cheapest n d p q) x y a b same h k = cheapest_agrees n d p q x y a b same h k
-right_agrees laws (check_loop d p q) x y a b same h k = check_loop_agrees laws.loop_verdicts d p q x y a b same h k
+two_same : Laws → (files : Files) (c : Command) (m n : Problem) → HoldInput (Some files) c (a_problem m) → HoldInput (Some files) c (a_problem n) → SameProblem m n
+two_same laws files c m n h k = one_input laws.problems files c (a_problem m) (a_problem n) h k
 
--- an answer that is right of what files stand for is no refusal
-abbrev Stands : Option Files → Command → Input → Answer → Type 0
-Stands files c x a = HoldInput files c x × IsRightAnswer c x a
+plans_same : Laws → (files : Files) (c : Command) (m n : Problem) (plan other : List Action) → HoldInput (Some files) c (a_plan m plan) → HoldInput (Some files) c (a_plan n other) → SameProblem m n × (plan ≡ other)
+plans_same laws files c m n plan other h k = one_input laws.problems files c (a_plan m plan) (a_plan n other) h k
 
-stand_agree : Laws → (files : Files) (c : Command) (x y : Input) (a b : Answer) → Stands (Some files) c x a → Stands (Some files) c y b
-    → Agrees x a (status_of b) (text_of y b)
-stand_agree laws files c x y a b h k = right_agrees laws c x y a b (one_input laws.problems files c x y h.0 k.0) h.1 k.1
+proofs_same : Laws → (files : Files) (c : Command) (m n : Problem) (proof other : Proof) → HoldInput (Some files) c (a_proof m proof) → HoldInput (Some files) c (a_proof n other) → SameProblem m n × (proof ≡ other)
+proofs_same laws files c m n proof other h k = one_input laws.problems files c (a_proof m proof) (a_proof n other) h k
 
--- a refusal, or what is right of what files stand for
-abbrev Splits : Option Files → Command → Input → Answer → Type 0
-Splits files c x a = ((number : ℕ) × (m : Broken) × (a ≡ refusal number m) × IsRefused files c number m) ⊎ Stands files c x a
+costs_same : Laws → (files : Files) (c : Command) (m n : Problem) (costs others : List ℕ) → HoldInput (Some files) c (some_costs m costs) → HoldInput (Some files) c (some_costs n others) → SameProblem m n × (costs ≡ others)
+costs_same laws files c m n costs others h k = one_input laws.problems files c (some_costs m costs) (some_costs n others) h k
 
-splits : (files : Option Files) (c : Command) (x : Input) (a : Answer) → Allows files c x a → Splits files c x a
-splits files c x (refusal number m) h = inl (number, m, refl, h)
-splits files c x (past_range after note path) h = inr h
-splits files c x (judged v) h = inr h
-splits files c x (searched s o) h = inr h
-splits files c x (traced s kept events o) h = inr h
-splits files c x explained h = inr h
-splits files c x (certified s proof) h = inr h
-splits files c x (unproved s o) h = inr h
-splits files c x (judged_proof v) h = inr h
-splits files c x (sampled n kept o v) h = inr h
-splits files c x (costed b o) h = inr h
-splits files c x (judged_loop v) h = inr h
+loops_same : Laws → (files : Files) (c : Command) (m n : Problem) (plan other : LoopPlan) → HoldInput (Some files) c (a_loop m plan) → HoldInput (Some files) c (a_loop n other) → SameProblem m n × (plan ≡ other)
+loops_same laws files c m n plan other h k = one_input laws.problems files c (a_loop m plan) (a_loop n other) h k
 
-split_agree : Laws → (files : Files) (c : Command) (x y : Input) (a b : Answer) → Splits (Some files) c x a → Splits (Some files) c y b
-    → Agrees x a (status_of b) (text_of y b)
-split_agree laws files c x y a b (inl h) (inl k) =
-    let one = one_refusal laws.problems files c h.0 k.0 h.1 k.1 h.3 k.3 in
-    inl (ap status_of k.2 ∙ sym (ap status_of h.2), subst (λ (u : Answer). IsTextOf x u (text_of y b)) (sym h.2) (ap (text_of y) k.2 ∙ (λ t. refusal_text (sym one.0 t) (sym one.1 t))))
-split_agree laws files c x y a b (inl h) (inr k) = absurd (no_refusal laws.problems files c y h.0 h.1 k.0 h.3)
-split_agree laws files c x y a b (inr h) (inl k) = absurd (no_refusal laws.problems files c x k.0 k.1 h.0 k.3)
-split_agree laws files c x y a b (inr h) (inr k) = stand_agree laws files c x y a b h k
+-- two right answers over the same files: one line for each command
+right_agrees : Laws → (files : Files) (c : Command) (status given : Status) (text lines : List ℕ) → Answers false (Some files) c status text → Answers true (Some files) c given lines → Agrees c status text given lines
+right_agrees laws files (check d p q) status given text lines h k =
+    let same = plans_same laws files (check d p q) h.0 k.0 h.1 k.1 h.2 k.2 in
+    check_agrees laws.verdicts (check d p q) status given text lines h.0 k.0 h.1 k.1 same.0 same.1 h.3 k.3
+right_agrees laws files (search s d p) status given text lines h k =
+    search_agrees laws (search s d p) s status given text lines h.0 k.0 (two_same laws files (search s d p) h.0 k.0 h.1 k.1) h.2 k.2
+right_agrees laws files (trace s d p) status given text lines h k =
+    trace_agrees laws (trace s d p) s status given text lines h.0 k.0 (two_same laws files (trace s d p) h.0 k.0 h.1 k.1) h.2 k.2
+right_agrees laws files (explain d p q) status given text lines h k =
+    let same = plans_same laws files (explain d p q) h.0 k.0 h.1 k.1 h.2 k.2 in
+    explain_agrees (explain d p q) status given text lines h.0 k.0 h.1 k.1 same.0 same.1 h.3 k.3
+right_agrees laws files (prove_none s d p) status given text lines h k =
+    prove_none_agrees laws s d p status given text lines h.0 k.0 (two_same laws files (prove_none s d p) h.0 k.0 h.1 k.1) h.2 k.2
+right_agrees laws files (check_none d p q) status given text lines h k =
+    let same = proofs_same laws files (check_none d p q) h.0 k.0 h.1 k.1 h.2 k.2 in
+    check_none_agrees laws.none_verdicts (check_none d p q) status given text lines h.0 k.0 h.1 k.1 same.0 same.1 h.3 k.3
+right_agrees laws files (sample m) status given text lines h k =
+    sample_agrees laws m status given text lines h.0 k.0 (two_same laws files (sample m) h.0 k.0 h.1 k.1) h.2 k.2
+right_agrees laws files (cheapest b d p q) status given text lines h k =
+    let same = costs_same laws files (cheapest b d p q) h.0 k.0 h.1 k.1 h.2 k.2 in
+    cheapest_agrees b d p q status given text lines h.0 k.0 h.1 k.1 same.0 same.1 h.3 k.3
+right_agrees laws files (check_loop d p q) status given text lines h k =
+    let same = loops_same laws files (check_loop d p q) h.0 k.0 h.1 k.1 h.2 k.2 in
+    check_loop_agrees laws.loop_verdicts (check_loop d p q) status given text lines h.0 k.0 h.1 k.1 same.0 same.1 h.3 k.3
 
--- an answer that is allowed agrees with every other one; a sample, which reads no file, may be taken to be over any files
-allowed_agrees : Laws → (files : Option Files) (c : Command) (x y : Input) (a b : Answer) → AreTold files c → Allows files c x a
-    → Allows files c y b → Agrees x a (status_of b) (text_of y b)
-allowed_agrees laws (Some files) c x y a b are h k =
-    split_agree laws files c x y a b (splits (Some files) c x a h) (splits (Some files) c y b k)
-allowed_agrees laws None (sample m) x y a b are h k =
-    split_agree laws (dict.from_entries []) (sample m) x y a b (splits None (sample m) x a h) (splits None (sample m) y b k)
-allowed_agrees laws None c x y a b are h k = absurd (true≢false (sym are))
+-- files of which an answer is right all pass: one line for each command
+right_passes : (fits : Bool) (files : Files) (c : Command) (status : Status) (text : List ℕ) → Answers fits (Some files) c status text → (x : Input) × HoldInput (Some files) c x
+right_passes fits files (check d p q) status text h = (a_plan h.0 h.1, h.2)
+right_passes fits files (search s d p) status text h = (a_problem h.0, h.1)
+right_passes fits files (trace s d p) status text h = (a_problem h.0, h.1)
+right_passes fits files (explain d p q) status text h = (a_plan h.0 h.1, h.2)
+right_passes fits files (prove_none s d p) status text h = (a_problem h.0, h.1)
+right_passes fits files (check_none d p q) status text h = (a_proof h.0 h.1, h.2)
+right_passes fits files (sample m) status text h = (a_problem h.0, h.1)
+right_passes fits files (cheapest b d p k) status text h = (some_costs h.0 h.1, h.2)
+right_passes fits files (check_loop d p q) status text h = (a_loop h.0 h.1, h.2)
 
--- an answer that is allowed is the one that is given, or it yields to it
-pub answer_agrees : Laws
-    → (files : Option Files) (c : Command) (told : CallsTold) (x : Input) (a : Answer) (status : Status) (text : List ℕ) → AreTold files c
-    → Allows files c x a → IsAnswer files c told status text → Agrees x a status text
-answer_agrees laws files c told x a status text are allowed h =
-    let agrees = allowed_agrees laws files c x h.input a h.answer are allowed h.allowed in
-    subst (λ (s : Status). Agrees x a s text) (sym h.status_is) (subst (λ (t : List ℕ). Agrees x a (status_of h.answer) t) (sym h.text_is) agrees)
+-- and none of them is refused
+not_both : Laws → (fits : Bool) (files : Files) (c : Command) (status : Status) (text : List ℕ) (number : ℕ) (m : Broken) (given : Status) (lines : List ℕ) → Answers fits (Some files) c status text → Refuses (Some files) c number m given lines → ⊥
+not_both laws fits files c status text number m given lines h k =
+    let passes = right_passes fits files c status text h in
+    no_refusal laws.problems files c passes.0 number m passes.1 k.0
+
+refusals_agree : Laws → (files : Files) (c : Command) (i j : ℕ) (m n : Broken) (status given : Status) (text lines : List ℕ) → Refuses (Some files) c i m status text → Refuses (Some files) c j n given lines → Agrees c status text given lines
+refusals_agree laws files c i j m n status given text lines h k =
+    let one = one_refusal laws.problems files c i j m n h.0 k.0 in
+    inl (k.1 ∙ sym h.1, inl (k.2 ∙ (λ t. refusal_text (sym one.0 t) (sym one.1 t)) ∙ sym h.2))
+
+-- an answer that is allowed agrees with the one that is given
+told_agree : Laws → (files : Files) (c : Command) (told : CallsTold) (status given : Status) (text lines : List ℕ) → Allows (Some files) c status text → IsAnswer (Some files) c told given lines → Agrees c status text given lines
+told_agree laws files c told status given text lines (inl h) (inl k) = right_agrees laws files c status given text lines h k
+told_agree laws files c told status given text lines (inl h) (inr k) = absurd (not_both laws false files c status text k.0 k.1 given lines h k.2)
+told_agree laws files c told status given text lines (inr h) (inl k) = absurd (not_both laws true files c given lines h.0 h.1 status text k h.2)
+told_agree laws files c told status given text lines (inr h) (inr k) = refusals_agree laws files c h.0 k.0 h.1 k.1 status given text lines h.2 k.2
+
+-- a sample, which reads no file, may be taken to be over any files
+only_answer : Laws → (files : Option Files) (c : Command) (told : CallsTold) (given : Status) (lines : List ℕ) → IsAnswer files c told given lines → AreTold files c → IsOnlyAnswer files c given lines
+only_answer laws (Some files) c told given lines k are = λ status text h. told_agree laws files c told status given text lines h k
+only_answer laws None (sample m) told given lines k are = λ status text h. told_agree laws (dict.from_entries []) (sample m) told status given text lines h k
+only_answer laws None c told given lines k are = absurd (true≢false (sym are))
 
 -- files whose command is calm all pass: one line for each command
 calm_passes : (files : Files) (c : Command) → IsCalmCommand (Some files) c → (x : Input) × HoldInput (Some files) c x
@@ -214,44 +176,50 @@ calm_passes files (cheapest b d p k) calm = (some_costs calm.0 calm.1, calm.2)
 calm_passes files (check_loop d p q) calm = (a_loop calm.0 calm.1, calm.2)
 
 -- right answers where nothing past range is looked at: one line for each command
-right_calm : Laws → (files : Files) (c : Command) (x : Input) (a : Answer) → IsCalmCommand (Some files) c → Stands (Some files) c x a
-    → IsCalmStatus (status_of a)
-right_calm laws files (check d p q) x a calm h =
-    check_calm d p q calm.0 calm.1 x a (one_input laws.problems files (check d p q) (a_plan calm.0 calm.1) x calm.2 h.0) calm.3 h.1
-right_calm laws files (search s d p) x a calm h =
-    let few = calm.2 in
-    search_calm laws s d p calm.0 x a (one_input laws.problems files (search s d p) (a_problem calm.0) x calm.1 h.0) few.calm few.few h.1
-right_calm laws files (trace s d p) x a calm h =
-    let few = calm.2 in
-    trace_calm laws s d p calm.0 x a (one_input laws.problems files (trace s d p) (a_problem calm.0) x calm.1 h.0) few.calm few.few h.1
-right_calm laws files (explain d p q) x a calm h =
-    explain_calm d p q calm.0 calm.1 x a (one_input laws.problems files (explain d p q) (a_plan calm.0 calm.1) x calm.2 h.0) calm.3 h.1
-right_calm laws files (prove_none s d p) x a calm h =
-    let few = calm.2 in
-    prove_none_calm laws s d p calm.0 x a (one_input laws.problems files (prove_none s d p) (a_problem calm.0) x calm.1 h.0) few.calm few.few h.1
-right_calm laws files (check_none d p q) x a calm h =
-    check_none_calm d p q calm.0 calm.1 x a (one_input laws.problems files (check_none d p q) (a_proof calm.0 calm.1) x calm.2 h.0) calm.3 h.1
-right_calm laws files (sample m) x a calm h =
-    sample_calm laws m calm.0 x a (one_input laws.problems files (sample m) (a_problem calm.0) x calm.1 h.0) calm.2 h.1
-right_calm laws files (cheapest b d p k) x a calm h =
+right_calm : Laws → (files : Files) (c : Command) (status : Status) (text : List ℕ) → IsCalmCommand (Some files) c → Answers true (Some files) c status text → IsOwn status
+right_calm laws files (check d p q) status text calm h =
+    let same = plans_same laws files (check d p q) calm.0 h.0 calm.1 h.1 calm.2 h.2 in
+    check_calm status text calm.0 h.0 calm.1 h.1 same.0 same.1 calm.3 h.3
+right_calm laws files (search s d p) status text calm h =
+    search_calm laws s status text calm.0 h.0 (two_same laws files (search s d p) calm.0 h.0 calm.1 h.1) calm.2 h.2
+right_calm laws files (trace s d p) status text calm h =
+    trace_calm laws s status text calm.0 h.0 (two_same laws files (trace s d p) calm.0 h.0 calm.1 h.1) calm.2 h.2
+right_calm laws files (explain d p q) status text calm h =
+    let same = plans_same laws files (explain d p q) calm.0 h.0 calm.1 h.1 calm.2 h.2 in
+    explain_calm status text calm.0 h.0 calm.1 h.1 same.0 same.1 calm.3 h.3
+right_calm laws files (prove_none s d p) status text calm h =
+    prove_none_calm laws s status text calm.0 h.0 (two_same laws files (prove_none s d p) calm.0 h.0 calm.1 h.1) calm.2 h.2
+right_calm laws files (check_none d p q) status text calm h =
+    let same = proofs_same laws files (check_none d p q) calm.0 h.0 calm.1 h.1 calm.2 h.2 in
+    check_none_calm status text calm.0 h.0 calm.1 h.1 same.0 same.1 calm.3 h.3
+right_calm laws files (sample m) status text calm h =
+    sample_calm laws m status text calm.0 h.0 (two_same laws files (sample m) calm.0 h.0 calm.1 h.1) calm.2 h.2
+right_calm laws files (cheapest b d p k) status text calm h =
+    let same = costs_same laws files (cheapest b d p k) calm.0 h.0 calm.1 h.1 calm.2 h.2 in
     let near = calm.3 in
-    cheapest_calm b d p k calm.0 calm.1 x a (one_input laws.problems files (cheapest b d p k) (some_costs calm.0 calm.1) x calm.2 h.0) near.0 near.1 h.1
-right_calm laws files (check_loop d p q) x a calm h =
-    check_loop_calm d p q calm.0 calm.1 x a (one_input laws.problems files (check_loop d p q) (a_loop calm.0 calm.1) x calm.2 h.0) calm.3 h.1
+    cheapest_calm b status text calm.0 h.0 calm.1 h.1 same.0 same.1 near.0 near.1 h.3
+right_calm laws files (check_loop d p q) status text calm h =
+    let same = loops_same laws files (check_loop d p q) calm.0 h.0 calm.1 h.1 calm.2 h.2 in
+    check_loop_calm status text calm.0 h.0 calm.1 h.1 same.0 same.1 calm.3 h.3
 
-split_calm : Laws → (files : Files) (c : Command) (x : Input) (a : Answer) → IsCalmCommand (Some files) c → Splits (Some files) c x a
-    → IsCalmStatus (status_of a)
-split_calm laws files c x a calm (inl h) =
+-- where nothing past range is looked at and there is room, an answer is what the command finds
+told_calm : Laws → (files : Files) (c : Command) (told : CallsTold) (status : Status) (text : List ℕ) → IsCalmCommand (Some files) c → IsAnswer (Some files) c told status text → IsOwn status
+told_calm laws files c told status text calm (inl h) = right_calm laws files c status text calm h
+told_calm laws files c told status text calm (inr h) =
     let passes = calm_passes files c calm in
-    absurd (no_refusal laws.problems files c passes.0 h.0 h.1 passes.1 h.3)
-split_calm laws files c x a calm (inr h) = right_calm laws files c x a calm h
+    let refuses = h.2 in
+    absurd (no_refusal laws.problems files c passes.0 h.0 h.1 passes.1 refuses.0)
 
--- where nothing past range is looked at and there is room, no answer has the status Range or Spent
-pub answer_calm : Laws → (files : Option Files) (c : Command) (told : CallsTold) (status : Status) (text : List ℕ) → AreTold files c
-    → IsCalmCommand files c → IsAnswer files c told status text → IsCalmStatus status
-answer_calm laws (Some files) c told status text are calm h =
-    subst IsCalmStatus (sym h.status_is) (split_calm laws files c h.input h.answer calm (splits (Some files) c h.input h.answer h.allowed))
-answer_calm laws None (sample m) told status text are calm h =
-    subst IsCalmStatus (sym h.status_is)
-    (split_calm laws (dict.from_entries []) (sample m) h.input h.answer calm (splits None (sample m) h.input h.answer h.allowed))
-answer_calm laws None c told status text are calm h = absurd (true≢false (sym are))
+calm_answer : Laws → (files : Option Files) (c : Command) (told : CallsTold) (status : Status) (text : List ℕ) → IsAnswer files c told status text → AreTold files c → IsCalmCommand files c → IsOwn status
+calm_answer laws (Some files) c told status text h are calm = told_calm laws files c told status text calm h
+calm_answer laws None (sample m) told status text h are calm = told_calm laws (dict.from_entries []) (sample m) told status text calm h
+calm_answer laws None c told status text h are calm = absurd (true≢false (sym are))
+
+-- an answer that the files allow is one of which all this holds
+pub rightly : Laws → (files : Option Files) (c : Command) (told : CallsTold) (status : Status) (text : List ℕ) → IsAnswer files c told status text → AnswersRightly files c told status text
+rightly laws files c told status text h = record {
+  allowed = h;
+  headline = headline_of laws files c told status text h;
+  exact = only_answer laws files c told status text h;
+  calm = calm_answer laws files c told status text h;
+}

@@ -1,38 +1,39 @@
 -- Laws of the right answers of `prove-none`.
-use Rattle.std.proofs.Common.{◌≡◌, inl, inr, ℕ, List, refl, sym, ap, ◌∙◌, subst}
-use Rattle.std.specs.Prelude.{Option}
-use Rattle.tl_cert.specs.ProofTexts.{proof_text}
-use Rattle.tl_cert.specs.declared.proof.Proof.{Proof}
-use Rattle.tl_eval.specs.Notes.{operation_of}
-use Rattle.tl_eval.specs.declared.range.RangeNote.{RangeNote}
+use Rattle.std.proofs.Common.{◌≡◌, inl, inr, ℕ, List, ◌++◌, true, false, IsTrue, sym, ap, ◌∙◌, subst}
+use Rattle.std.specs.Prelude.{Bool, Option}
+use Rattle.tl_cert.specs.ProofTexts.{head_line, link_lines}
 use Rattle.tl_outside.specs.Told.{Files}
-use Rattle.tl_search.specs.RangeCauses.{IsRangeCause}
-use Rattle.tl_search.specs.Spent.{HasFewPairs}
 use Rattle.tl_search.specs.declared.outcome.Outcome.{Outcome}
 use Rattle.tl_search.specs.declared.outcome.Outcome.TheVariants as outcome
-use Rattle.tl_syntax.specs.declared.action.Action.{Action}
 use Rattle.tl_syntax.specs.declared.problem.Problem.{Problem}
-use Rattle.tl_terms.specs.Calm as calm
-use Rattle.tl_terms.specs.Problem.{PlainProblem}
 use Rattle.tl_terms.specs.ProblemMeaning.{plain_problem}
-use Rattle.tl_text.specs.Outcomes.{outcome_text}
+use Rattle.tl_text.specs.Outcomes.{PlanFits, outcome_text}
 use Rattle.tl_run.specs.declared.search.Search.{Search}
+use Rattle.tl_run.specs.declared.status.Status.{Status}
 use Rattle.tl_run.specs.declared.status.Status.TheVariants.{Yes}
-use Rattle.tl_run.specs.Answers.{Answer, past_range, certified, unproved, IsRightAnswer, outcome_status, status_of, text_of}
+use Rattle.tl_run.specs.Answers.{GivesNoProof, GivesProof, ProvesNone, outcome_status}
 use Rattle.tl_run.specs.Commands.{prove_none}
-use Rattle.tl_run.specs.Inputs.{Input, a_problem}
+use Rattle.tl_run.specs.Inputs.{a_problem}
 use Rattle.tl_run.specs.Laws.{Laws}
-use Rattle.tl_run.specs.Plan.{IsOutcome}
-use Rattle.tl_run.specs.Promises.{Headline, IsCalmStatus, OutcomeYields, Yields}
+use Rattle.tl_run.specs.Plan.{HasCalmSearch, IsOutcome}
+use Rattle.tl_run.specs.Promises.{Agrees, GivesWay, Headline, IsOwn}
 use Rattle.tl_run.specs.ProveNone.{IsBoundOf, IsCertificate, LeavesNoProof, unproved_status}
 use Rattle.tl_run.specs.Turns.{HoldInput}
-use Rattle.tl_run.proofs.Agreement.{Agrees}
-use Rattle.tl_run.proofs.OneOutcome.{IsOneOrYields, one_outcome, calm_outcome}
+use Rattle.tl_run.proofs.Agreement.{IsDone, from_range, gives_way, same_given, to_range}
+use Rattle.tl_run.proofs.OneOutcome.{IsOneOrYields}
 use Rattle.tl_run.proofs.OneProblem.{SameProblem}
-use Rattle.tl_run.proofs.SameInputs.{SameInput}
-use Rattle.tl_run.proofs.SameLines.{same_outcome_text}
-use Rattle.tl_run.proofs.SameProofs.{same_proof_text}
-use Rattle.tl_run.proofs.SearchLaws.{prints_plan}
+use Rattle.tl_run.proofs.SearchLaws.{no_past_range, outcomes_of_one, own_outcome, prints_plan, same_outcome_lines}
+
+unproved_done : (o : Outcome) → IsDone (unproved_status o)
+unproved_done (outcome.Plan plan) = tt
+unproved_done outcome.NoPlan = tt
+unproved_done outcome.NoneWithin = tt
+unproved_done outcome.Spent = tt
+
+pub prove_none_done : (fits : Bool) (s : Search) (status : Status) (text : List ℕ) (m : Problem) → ProvesNone fits s status text m → IsDone status
+prove_none_done fits s status text m (inl h) = subst IsDone (sym h.status_is) tt
+prove_none_done fits s status text m (inr (inl h)) = subst IsDone (sym h.status_is) (unproved_done h.what)
+prove_none_done fits s status text m (inr (inr h)) = subst IsDone (sym h.3) tt
 
 -- two outcomes that are right and leave proofs leave proofs with one bound
 one_bound : (n : ℕ) (o u : Outcome) (b c : Option ℕ) → IsBoundOf n o b → IsBoundOf n u c → IsOneOrYields o u → c ≡ b
@@ -50,134 +51,124 @@ one_bound n outcome.NoneWithin outcome.Spent b c h k one = absurd k
 one_bound n outcome.Spent u b c h k one = absurd h
 
 -- where one right outcome leaves a proof and another none, that one is spent
-certified_yields : (s : Search) (proof : Proof) (n : ℕ) (o u : Outcome) (b : Option ℕ) → IsBoundOf n o b → LeavesNoProof u → IsOneOrYields o u → Yields (certified s proof) (unproved_status u)
-certified_yields s proof n (outcome.Plan x) u b h leaves one = absurd h
-certified_yields s proof n outcome.NoPlan (outcome.Plan y) b h leaves (inl e) = absurd (let z : ⊥ = cc in z)
-certified_yields s proof n outcome.NoPlan (outcome.Plan y) b h leaves (inr k) = absurd k
-certified_yields s proof n outcome.NoPlan outcome.NoPlan b h leaves one = absurd leaves
-certified_yields s proof n outcome.NoPlan outcome.NoneWithin b h leaves one = absurd leaves
-certified_yields s proof n outcome.NoPlan outcome.Spent b h leaves one = tt
-certified_yields s proof n outcome.NoneWithin (outcome.Plan y) b h leaves (inl e) = absurd (let z : ⊥ = cc in z)
-certified_yields s proof n outcome.NoneWithin (outcome.Plan y) b h leaves (inr k) = absurd k
-certified_yields s proof n outcome.NoneWithin outcome.NoPlan b h leaves one = absurd leaves
-certified_yields s proof n outcome.NoneWithin outcome.NoneWithin b h leaves one = absurd leaves
-certified_yields s proof n outcome.NoneWithin outcome.Spent b h leaves one = tt
-certified_yields s proof n outcome.Spent u b h leaves one = absurd h
+proof_gives_way : (n : ℕ) (o u : Outcome) (b : Option ℕ) → IsBoundOf n o b → LeavesNoProof u → IsOneOrYields o u → GivesWay Yes (unproved_status u)
+proof_gives_way n (outcome.Plan x) u b h leaves one = absurd h
+proof_gives_way n outcome.NoPlan (outcome.Plan y) b h leaves (inl e) = absurd (let z : ⊥ = cc in z)
+proof_gives_way n outcome.NoPlan (outcome.Plan y) b h leaves (inr k) = absurd k
+proof_gives_way n outcome.NoPlan outcome.NoPlan b h leaves one = absurd leaves
+proof_gives_way n outcome.NoPlan outcome.NoneWithin b h leaves one = absurd leaves
+proof_gives_way n outcome.NoPlan outcome.Spent b h leaves one = tt
+proof_gives_way n outcome.NoneWithin (outcome.Plan y) b h leaves (inl e) = absurd (let z : ⊥ = cc in z)
+proof_gives_way n outcome.NoneWithin (outcome.Plan y) b h leaves (inr k) = absurd k
+proof_gives_way n outcome.NoneWithin outcome.NoPlan b h leaves one = absurd leaves
+proof_gives_way n outcome.NoneWithin outcome.NoneWithin b h leaves one = absurd leaves
+proof_gives_way n outcome.NoneWithin outcome.Spent b h leaves one = tt
+proof_gives_way n outcome.Spent u b h leaves one = absurd h
 
-unproved_yields : (s : Search) (n : ℕ) (o u : Outcome) (b : Option ℕ) → LeavesNoProof o → IsBoundOf n u b → IsOneOrYields o u → Yields (unproved s o) Yes
-unproved_yields s n (outcome.Plan x) (outcome.Plan y) b leaves k one = absurd k
-unproved_yields s n (outcome.Plan x) outcome.NoPlan b leaves k (inl e) = absurd (let z : ⊥ = cc in z)
-unproved_yields s n (outcome.Plan x) outcome.NoPlan b leaves k (inr y) = absurd y
-unproved_yields s n (outcome.Plan x) outcome.NoneWithin b leaves k (inl e) = absurd (let z : ⊥ = cc in z)
-unproved_yields s n (outcome.Plan x) outcome.NoneWithin b leaves k (inr y) = absurd y
-unproved_yields s n (outcome.Plan x) outcome.Spent b leaves k one = absurd k
-unproved_yields s n outcome.NoPlan u b leaves k one = absurd leaves
-unproved_yields s n outcome.NoneWithin u b leaves k one = absurd leaves
-unproved_yields s n outcome.Spent u b leaves k one = tt
+gives_way_to_proof : (n : ℕ) (o u : Outcome) (b : Option ℕ) → LeavesNoProof o → IsBoundOf n u b → IsOneOrYields o u → GivesWay (unproved_status o) Yes
+gives_way_to_proof n (outcome.Plan x) (outcome.Plan y) b leaves k one = absurd k
+gives_way_to_proof n (outcome.Plan x) outcome.NoPlan b leaves k (inl e) = absurd (let z : ⊥ = cc in z)
+gives_way_to_proof n (outcome.Plan x) outcome.NoPlan b leaves k (inr y) = absurd y
+gives_way_to_proof n (outcome.Plan x) outcome.NoneWithin b leaves k (inl e) = absurd (let z : ⊥ = cc in z)
+gives_way_to_proof n (outcome.Plan x) outcome.NoneWithin b leaves k (inr y) = absurd y
+gives_way_to_proof n (outcome.Plan x) outcome.Spent b leaves k one = absurd k
+gives_way_to_proof n outcome.NoPlan u b leaves k one = absurd leaves
+gives_way_to_proof n outcome.NoneWithin u b leaves k one = absurd leaves
+gives_way_to_proof n outcome.Spent u b leaves k one = tt
 
 -- of two right outcomes without a proof that differ, one is spent
-both_yield : (s : Search) (o u : Outcome) → LeavesNoProof o → LeavesNoProof u → OutcomeYields o (outcome_status u) → Yields (unproved s o) (unproved_status u)
-both_yield s (outcome.Plan x) (outcome.Plan y) h k yields = absurd yields
-both_yield s (outcome.Plan x) outcome.NoPlan h k yields = absurd k
-both_yield s (outcome.Plan x) outcome.NoneWithin h k yields = absurd k
-both_yield s (outcome.Plan x) outcome.Spent h k yields = tt
-both_yield s outcome.NoPlan u h k yields = absurd h
-both_yield s outcome.NoneWithin u h k yields = absurd h
-both_yield s outcome.Spent (outcome.Plan y) h k yields = tt
-both_yield s outcome.Spent outcome.NoPlan h k yields = absurd k
-both_yield s outcome.Spent outcome.NoneWithin h k yields = absurd k
-both_yield s outcome.Spent outcome.Spent h k yields = tt
+both_give_way : (o u : Outcome) → LeavesNoProof o → LeavesNoProof u → GivesWay (outcome_status o) (outcome_status u) → GivesWay (unproved_status o) (unproved_status u)
+both_give_way (outcome.Plan x) (outcome.Plan y) h k way = absurd way
+both_give_way (outcome.Plan x) outcome.NoPlan h k way = absurd k
+both_give_way (outcome.Plan x) outcome.NoneWithin h k way = absurd k
+both_give_way (outcome.Plan x) outcome.Spent h k way = tt
+both_give_way outcome.NoPlan u h k way = absurd h
+both_give_way outcome.NoneWithin u h k way = absurd h
+both_give_way outcome.Spent (outcome.Plan y) h k way = tt
+both_give_way outcome.Spent outcome.NoPlan h k way = absurd k
+both_give_way outcome.Spent outcome.NoneWithin h k way = absurd k
+both_give_way outcome.Spent outcome.Spent h k way = tt
 
-past_range_yields : (after : ℕ) (note : RangeNote) (path : List Action) (u : Outcome) → Yields (past_range after note path) (unproved_status u)
-past_range_yields after note path (outcome.Plan plan) = tt
-past_range_yields after note path outcome.NoPlan = tt
-past_range_yields after note path outcome.NoneWithin = tt
-past_range_yields after note path outcome.Spent = tt
+abbrev Right : Bool → Search → Problem → Outcome → Type 0
+Right fits s m o = IsOutcome s (plain_problem m) o × LeavesNoProof o × (IsTrue fits → PlanFits o)
 
--- ---- two right answers
+abbrev lines_of : Search → Problem → Outcome → List ℕ
+lines_of s m o = outcome_text m.names m.domain.operators s.within s.nodes o
 
-module _ (laws : Laws) (s : Search) (m n : Problem) (same : SameProblem m n) where
-  one : (o u : Outcome) → IsOutcome s (plain_problem m) o → IsOutcome s (plain_problem n) u → IsOneOrYields o u
-  one o u h k = one_outcome laws s.mode s.within s.nodes (plain_problem m) o u h (subst (λ (x : PlainProblem). IsOutcome s x u) (sym same.meaning) k)
+module _ (laws : Laws) (s : Search) (d p : List ℕ) (status given : Status) (text lines : List ℕ) (m n : Problem) (same : SameProblem m n) where
+  both_proofs : GivesProof false s status text m → GivesProof true s given lines n → Agrees (prove_none s d p) status text given lines
+  both_proofs h k =
+      let c : IsCertificate s (plain_problem m) h.what = h.right.0 in
+      let o : IsCertificate s (plain_problem n) k.what = k.right.0 in
+      let one = one_bound s.within c.ended o.ended h.what.bound k.what.bound c.bound o.bound (outcomes_of_one laws s m n c.ended o.ended same c.right o.right) in
+      inl (
+        k.status_is ∙ sym h.status_is,
+        inr (
+          h.what.bound,
+          (link_lines m.names m.domain.operators h.what.links, h.text_is),
+          (
+            link_lines n.names n.domain.operators k.what.links,
+            k.text_is ∙ ap (λ (b : Option ℕ). head_line b ++ link_lines n.names n.domain.operators k.what.links) one,
+          ),
+        ),
+      )
 
-  same_proof_lines : (proof : Proof) → proof_text n.names n.domain.operators proof ≡ proof_text m.names m.domain.operators proof
-  same_proof_lines proof =
-      let names = sym same.names in
-      (λ i. proof_text (names i) n.domain.operators proof) ∙ same_proof_text m.names n.domain.operators m.domain.operators (sym same.heads) proof
+  proof_then_none : GivesProof false s status text m → GivesNoProof true s given lines n → Agrees (prove_none s d p) status text given lines
+  proof_then_none h k =
+      let c : IsCertificate s (plain_problem m) h.what = h.right.0 in
+      let one = outcomes_of_one laws s m n c.ended k.what same c.right k.right.0 in
+      gives_way (prove_none s d p) status given Yes (unproved_status k.what) text lines h.status_is k.status_is
+      (proof_gives_way s.within c.ended k.what h.what.bound c.bound k.right.1 one)
 
-  both_certified : (t r : Search) (proof other : Proof) → t ≡ s → IsCertificate s (plain_problem m) proof → IsCertificate s (plain_problem n) other → Agrees (a_problem m) (certified t proof) Yes (text_of (a_problem n) (certified r other))
-  both_certified t r proof other e h k = inl (
-    refl,
-    (
-      other,
-      subst (λ (x : Search). IsCertificate x (plain_problem m) other) (sym e) (subst (λ (x : PlainProblem). IsCertificate s x other) (sym same.meaning) k),
-      one_bound s.within h.ended k.ended proof.bound other.bound h.bound k.bound (one h.ended k.ended h.right k.right),
-      same_proof_lines other,
-    ),
-  )
+  none_then_proof : GivesNoProof false s status text m → GivesProof true s given lines n → Agrees (prove_none s d p) status text given lines
+  none_then_proof h k =
+      let c : IsCertificate s (plain_problem n) k.what = k.right.0 in
+      let one = outcomes_of_one laws s m n h.what c.ended same h.right.0 c.right in
+      gives_way (prove_none s d p) status given (unproved_status h.what) Yes text lines h.status_is k.status_is
+      (gives_way_to_proof s.within h.what c.ended k.what.bound h.right.1 c.bound one)
 
-  both_unproved : (t r : Search) (o u : Outcome) → t ≡ s → r ≡ s → LeavesNoProof o → LeavesNoProof u → IsOneOrYields o u → Agrees (a_problem m) (unproved t o) (unproved_status u) (text_of (a_problem n) (unproved r u))
-  both_unproved t r o u e f h k (inl is) =
-      let names = sym same.names in
-      let back = f ∙ sym e in
-      inl (ap unproved_status is, (λ i. outcome_text (names i) n.domain.operators (back i).within (back i).nodes (is i)) ∙ same_outcome_text m.names n.domain.operators m.domain.operators t.within t.nodes o (sym same.heads))
-  both_unproved t r o u e f h k (inr y) = inr (both_yield t o u h k y)
+  both_none : GivesNoProof false s status text m → GivesNoProof true s given lines n → Agrees (prove_none s d p) status text given lines
+  both_none h k =
+      elim (outcomes_of_one laws s m n h.what k.what same h.right.0 k.right.0) [
+        | inl is ↦ same_given (prove_none s d p) (Right false s m) (Right true s n) unproved_status (lines_of s m) (lines_of s n) status given text lines h k is (same_outcome_lines s m n h.what same)
+        | inr way ↦ gives_way (prove_none s d p) status given (unproved_status h.what) (unproved_status k.what) text lines h.status_is k.status_is
+            (both_give_way h.what k.what h.right.1 k.right.1 way)
+      ]
 
-certified_agrees : Laws → (s : Search) (d p : List ℕ) (m : Problem) (t : Search) (proof : Proof) (y : Input) (b : Answer) → SameInput (a_problem m) y → t ≡ s → IsCertificate s (plain_problem m) proof → IsRightAnswer (prove_none s d p) y b → Agrees (a_problem m) (certified t proof) (status_of b) (text_of y b)
-certified_agrees laws s d p m t proof (a_problem n) (certified r other) same e h k = both_certified laws s m n same t r proof other e h k.1
-certified_agrees laws s d p m t proof (a_problem n) (unproved r u) same e h k = inr (certified_yields t proof s.within h.ended u proof.bound h.bound k.2 (one laws s m n same h.ended u h.right k.1))
-certified_agrees laws s d p m t proof (a_problem n) (past_range after note path) same e h k = inr tt
-certified_agrees laws s d p m t proof y b same e h k = absurd k
+-- of two right answers over the same problem each agrees with the other
+pub prove_none_agrees : Laws → (s : Search) (d p : List ℕ) (status given : Status) (text lines : List ℕ) (m n : Problem) → SameProblem m n → ProvesNone false s status text m → ProvesNone true s given lines n → Agrees (prove_none s d p) status text given lines
+prove_none_agrees laws s d p status given text lines m n same (inl h) (inl k) = both_proofs laws s d p status given text lines m n same h k
+prove_none_agrees laws s d p status given text lines m n same (inl h) (inr (inl k)) = proof_then_none laws s d p status given text lines m n same h k
+prove_none_agrees laws s d p status given text lines m n same (inr (inl h)) (inl k) = none_then_proof laws s d p status given text lines m n same h k
+prove_none_agrees laws s d p status given text lines m n same (inr (inl h)) (inr (inl k)) = both_none laws s d p status given text lines m n same h k
+prove_none_agrees laws s d p status given text lines m n same h (inr (inr k)) = to_range (prove_none s d p) status given text lines (prove_none_done false s status text m h) k.3
+prove_none_agrees laws s d p status given text lines m n same (inr (inr h)) k = from_range (prove_none s d p) status given text lines h.3 (prove_none_done true s given lines n k)
 
-unproved_agrees : Laws → (s : Search) (d p : List ℕ) (m : Problem) (t : Search) (o : Outcome) (y : Input) (b : Answer) → SameInput (a_problem m) y → t ≡ s → IsOutcome s (plain_problem m) o → LeavesNoProof o → IsRightAnswer (prove_none s d p) y b → Agrees (a_problem m) (unproved t o) (status_of b) (text_of y b)
-unproved_agrees laws s d p m t o (a_problem n) (certified r other) same e h leaves k =
-    let c = k.1 in
-    inr (unproved_yields t s.within o c.ended other.bound leaves c.bound (one laws s m n same o c.ended h c.right))
-unproved_agrees laws s d p m t o (a_problem n) (unproved r u) same e h leaves k = both_unproved laws s m n same t r o u e k.0 leaves k.2 (one laws s m n same o u h k.1)
-unproved_agrees laws s d p m t o (a_problem n) (past_range after note path) same e h leaves k = inr tt
-unproved_agrees laws s d p m t o y b same e h leaves k = absurd k
-
-past_range_agrees : (s : Search) (d p : List ℕ) (x y : Input) (after : ℕ) (note : RangeNote) (path : List Action) (b : Answer) → IsRightAnswer (prove_none s d p) y b → Agrees x (past_range after note path) (status_of b) (text_of y b)
-past_range_agrees s d p x (a_problem n) after note path (certified r other) k = inr tt
-past_range_agrees s d p x (a_problem n) after note path (unproved r u) k = inr (past_range_yields after note path u)
-past_range_agrees s d p x (a_problem n) after note path (past_range since told route) k = inr tt
-past_range_agrees s d p x y after note path b k = absurd k
-
--- of two right answers over the same input each agrees with the other
-pub prove_none_agrees : Laws → (s : Search) (d p : List ℕ) (x y : Input) (a b : Answer) → SameInput x y → IsRightAnswer (prove_none s d p) x a → IsRightAnswer (prove_none s d p) y b → Agrees x a (status_of b) (text_of y b)
-prove_none_agrees laws s d p (a_problem m) y (certified t proof) b same h k = certified_agrees laws s d p m t proof y b same h.0 h.1 k
-prove_none_agrees laws s d p (a_problem m) y (unproved t o) b same h k = unproved_agrees laws s d p m t o y b same h.0 h.1 h.2 k
-prove_none_agrees laws s d p (a_problem m) y (past_range after note path) b same h k = past_range_agrees s d p (a_problem m) y after note path b k
-prove_none_agrees laws s d p x y a b same h k = absurd h
-
-unproved_says : (files : Option Files) (s : Search) (d p : List ℕ) (m : Problem) (o : Outcome) (text : List ℕ) → HoldInput files (prove_none s d p) (a_problem m) → IsOutcome s (plain_problem m) o → LeavesNoProof o → text ≡ text_of (a_problem m) (unproved s o) → Headline files (prove_none s d p) (unproved_status o) text
+unproved_says : (files : Option Files) (s : Search) (d p : List ℕ) (m : Problem) (o : Outcome) (text : List ℕ) → HoldInput files (prove_none s d p) (a_problem m) → IsOutcome s (plain_problem m) o → LeavesNoProof o → text ≡ outcome_text m.names m.domain.operators s.within s.nodes o → Headline files (prove_none s d p) (unproved_status o) text
 unproved_says files s d p m (outcome.Plan plan) text stand right leaves line = (m, stand, prints_plan s m plan text right line)
 unproved_says files s d p m outcome.NoPlan text stand right leaves line = absurd leaves
 unproved_says files s d p m outcome.NoneWithin text stand right leaves line = absurd leaves
 unproved_says files s d p m outcome.Spent text stand right leaves line = tt
 
 -- what the headline says of a right answer
-pub prove_none_says : Laws → (files : Option Files) (s : Search) (d p : List ℕ) (x : Input) (a : Answer) (text : List ℕ) → HoldInput files (prove_none s d p) x → IsRightAnswer (prove_none s d p) x a → text ≡ text_of x a → Headline files (prove_none s d p) (status_of a) text
-prove_none_says laws files s d p (a_problem m) (certified t proof) text stand right line =
-    let c = right.1 in
-    (m, stand, record { proof = proof; lines = line; covers = c.covers; none = laws.covered (plain_problem m) proof c.covers })
-prove_none_says laws files s d p (a_problem m) (unproved t o) text stand right line =
-    unproved_says files s d p m o text stand right.1 right.2 (line ∙ ap (λ (r : Search). text_of (a_problem m) (unproved r o)) right.0)
-prove_none_says laws files s d p (a_problem m) (past_range after note path) text stand right line = tt
-prove_none_says laws files s d p x a text stand right line = absurd right
+pub prove_none_says : Laws → (files : Option Files) (s : Search) (d p : List ℕ) (status : Status) (text : List ℕ) (m : Problem) → HoldInput files (prove_none s d p) (a_problem m) → ProvesNone true s status text m → Headline files (prove_none s d p) status text
+prove_none_says laws files s d p status text m stand (inl h) =
+    let c : IsCertificate s (plain_problem m) h.what = h.right.0 in
+    subst (λ (x : Status). Headline files (prove_none s d p) x text) (sym h.status_is)
+    (m, stand, record { proof = h.what; lines = h.text_is; covers = c.covers; none = laws.covered (plain_problem m) h.what c.covers })
+prove_none_says laws files s d p status text m stand (inr (inl h)) =
+    subst (λ (x : Status). Headline files (prove_none s d p) x text) (sym h.status_is) (unproved_says files s d p m h.what text stand h.right.0 h.right.1 h.text_is)
+prove_none_says laws files s d p status text m stand (inr (inr h)) = subst (λ (x : Status). Headline files (prove_none s d p) x text) (sym h.3) tt
 
-unproved_is_calm : (o : Outcome) → LeavesNoProof o → IsCalmStatus (outcome_status o) → IsCalmStatus (unproved_status o)
-unproved_is_calm (outcome.Plan plan) leaves calm = tt
-unproved_is_calm outcome.NoPlan leaves calm = absurd leaves
-unproved_is_calm outcome.NoneWithin leaves calm = absurd leaves
-unproved_is_calm outcome.Spent leaves calm = absurd calm
+unproved_is_own : (o : Outcome) → LeavesNoProof o → IsOwn (outcome_status o) → IsOwn (unproved_status o)
+unproved_is_own (outcome.Plan plan) leaves own = tt
+unproved_is_own outcome.NoPlan leaves own = absurd leaves
+unproved_is_own outcome.NoneWithin leaves own = absurd leaves
+unproved_is_own outcome.Spent leaves own = absurd own
 
 -- where nothing past range is looked at, and there are few search nodes, every right answer is a proof or a plan
-pub prove_none_calm : Laws → (s : Search) (d p : List ℕ) (m : Problem) (x : Input) (a : Answer) → SameInput (a_problem m) x → calm.IsCalm (plain_problem m) s.within → HasFewPairs (plain_problem m) s.within s.nodes → IsRightAnswer (prove_none s d p) x a → IsCalmStatus (status_of a)
-prove_none_calm laws s d p m (a_problem n) (certified t proof) same calm few right = tt
-prove_none_calm laws s d p m (a_problem n) (unproved t o) same calm few right =
-    unproved_is_calm o right.2 (calm_outcome laws s.mode s.within s.nodes (plain_problem m) o few (subst (λ (u : PlainProblem). IsOutcome s u o) (sym same.meaning) right.1))
-prove_none_calm laws s d p m (a_problem n) (past_range after note path) same calm few right =
-    let cause = right.0 in
-    absurd (laws.calm (plain_problem m) s.within path (operation_of note) calm (subst (λ (u : PlainProblem). IsRangeCause u s.within path (operation_of note)) (sym same.meaning) cause.0))
-prove_none_calm laws s d p m x a same calm few right = absurd right
+pub prove_none_calm : Laws → (s : Search) (status : Status) (text : List ℕ) (m n : Problem) → SameProblem m n → HasCalmSearch s m → ProvesNone true s status text n → IsOwn status
+prove_none_calm laws s status text m n same few (inl h) = subst IsOwn (sym h.status_is) tt
+prove_none_calm laws s status text m n same few (inr (inl h)) =
+    subst IsOwn (sym h.status_is) (unproved_is_own h.what h.right.1 (own_outcome laws s m n h.what same few h.right.0))
+prove_none_calm laws s status text m n same few (inr (inr h)) = absurd (no_past_range laws s m n status text same few h)

@@ -45,20 +45,20 @@ use Rattle.tl_terms.specs.World.{World}
 use Rattle.tl_terms.proofs.PassingSteps.{arguments-of-executed-pass, step-arguments, step-passes}
 use Rattle.tl_terms.proofs.PassingWorlds.{WorldPasses, first-passes}
 use Rattle.tl_terms.proofs.StepLaws.{step-exactly}
-use Rattle.tl_text.specs.Outcomes.{PlanFits, plan_text}
+use Rattle.tl_text.specs.Outcomes.{PlanFits, outcome_text, plan_text}
 use Rattle.tl_text.proofs.PlanReadBack.{plan-read-back}
 use Rattle.tl_run.specs.declared.search.Search.{Search}
-use Rattle.tl_run.specs.declared.status.Status.TheVariants.{Yes, No, Refused}
+use Rattle.tl_run.specs.declared.status.Status.TheVariants.{Yes, No, Refused, Range}
 use Rattle.tl_run.specs.declared.words.Role.{Role}
 use Rattle.tl_run.specs.declared.words.Role.TheVariants as role
-use Rattle.tl_run.specs.Answers.{Answer, AnswerFits, IsRightAnswer, refusal, past_range, judged, searched, traced, explained, certified, unproved, judged_proof, sampled, costed, judged_loop, outcome_status, status_of, text_of}
-use Rattle.tl_run.specs.Commands.{Command, prove_none, search, three_files, two_files}
+use Rattle.tl_run.specs.Answers.{outcome_status}
+use Rattle.tl_run.specs.Commands.{prove_none, search, three_files, two_files}
 use Rattle.tl_run.specs.Inputs.{Input, nothing, a_domain, a_problem, a_plan, a_proof, StandsFor}
 use Rattle.tl_run.specs.Plan.{IsOutcome}
-use Rattle.tl_run.specs.Promises.{Allows}
+use Rattle.tl_run.specs.Promises.{IsAnswer}
 use Rattle.tl_run.specs.ProveNone.{IsBoundOf, IsCertificate, LeavesNoProof, unproved_status}
 use Rattle.tl_run.specs.ReadBack.{AreBytesOf, ExecutedPlansAreReadBack, IsProofFile, IsValidFile, PrintedPlansAreValid, PrintedProofsAreProved}
-use Rattle.tl_run.specs.Turns.{HoldInput, StandTogether}
+use Rattle.tl_run.specs.Turns.{CallsTold, HoldInput, StandTogether}
 use Rattle.tl_run.proofs.NamedPlans.{IsOfOperator, states_take, step_takes}
 use Rattle.tl_run.proofs.OneOutcome.{plan_within}
 use Rattle.tl_run.proofs.Replied.{counts_seen}
@@ -228,52 +228,31 @@ plan-valid files d p q text s m actions stand right fit lines limit short conten
       lawful = back.unbroken;
       meant = (refl, sym back.meant);
     } in
-    record { problem = m; actions = actions; lines = lines; valid = (one-more files d p q text role.Plan m (a_plan m actions) stand content stands, accepted) }
+    (m, actions, one-more files d p q text role.Plan m (a_plan m actions) stand content stands, (lines, accepted))
 
--- an answer with another status is no refusal
-not-refused : (files : Option Files) (c : Command) (x : Input) (a : Answer) → (Refused ≡ status_of a → ⊥) → Allows files c x a → HoldInput files c x × IsRightAnswer c x a
-not-refused files c x (refusal number m) other allowed = absurd (other refl)
-not-refused files c x (past_range after note path) other allowed = allowed
-not-refused files c x (judged v) other allowed = allowed
-not-refused files c x (searched s o) other allowed = allowed
-not-refused files c x (traced s kept events o) other allowed = allowed
-not-refused files c x explained other allowed = allowed
-not-refused files c x (certified s proof) other allowed = allowed
-not-refused files c x (unproved s o) other allowed = allowed
-not-refused files c x (judged_proof v) other allowed = allowed
-not-refused files c x (sampled n kept o v) other allowed = allowed
-not-refused files c x (costed b o) other allowed = allowed
-not-refused files c x (judged_loop v) other allowed = allowed
+module _ (files : Option Files) (s : Search) (d p q text : List ℕ) (told : CallsTold) (limit : s.within ≤ 100000) (short : length text ≤ 4194304) (content : IsContent files q text) where
+  outcome-valid : (m : Problem) (o : Outcome) → Yes ≡ outcome_status o → HoldInput files (search s d p) (a_problem m) → IsOutcome s (plain_problem m) o → PlanFits o → text ≡ outcome_text m.names m.domain.operators s.within s.nodes o → IsValidFile files d p q text
+  outcome-valid m (outcome.Plan actions) done stand right fit lines = plan-valid files d p q text s m actions stand right fit lines limit short content
+  outcome-valid m outcome.NoPlan done stand right fit lines = absurd (let k : ⊥ = cc in k)
+  outcome-valid m outcome.NoneWithin done stand right fit lines = absurd (let k : ⊥ = cc in k)
+  outcome-valid m outcome.Spent done stand right fit lines = absurd (let k : ⊥ = cc in k)
 
-yes-is-other : (a : Answer) → Yes ≡ status_of a → Refused ≡ status_of a → ⊥
-yes-is-other a done e = let q : Refused ≡ Yes = e ∙ sym done in let k : ⊥ = cc in k
+  answer-valid : IsAnswer files (search s d p) told Yes text → IsValidFile files d p q text
+  answer-valid (inl (m, stand, inl h)) = outcome-valid m h.what h.status_is stand h.right.0 (h.right.1 refl) h.text_is
+  answer-valid (inl (m, stand, inr h)) = absurd (let e : Yes ≡ Range = h.3 in let k : ⊥ = cc in k)
+  answer-valid (inr h) = let refuses = h.2 in absurd (let e : Yes ≡ Refused = refuses.1 in let k : ⊥ = cc in k)
 
-no-is-other : (a : Answer) → No ≡ status_of a → Refused ≡ status_of a → ⊥
-no-is-other a done e = let q : Refused ≡ No = e ∙ sym done in let k : ⊥ = cc in k
+  unproved-valid : (m : Problem) (o : Outcome) → No ≡ unproved_status o → HoldInput files (prove_none s d p) (a_problem m) → IsOutcome s (plain_problem m) o → LeavesNoProof o → PlanFits o → text ≡ outcome_text m.names m.domain.operators s.within s.nodes o → IsValidFile files d p q text
+  unproved-valid m (outcome.Plan actions) done stand right leaves fit lines = plan-valid files d p q text s m actions stand right fit lines limit short content
+  unproved-valid m outcome.NoPlan done stand right leaves fit lines = absurd leaves
+  unproved-valid m outcome.NoneWithin done stand right leaves fit lines = absurd leaves
+  unproved-valid m outcome.Spent done stand right leaves fit lines = absurd (let k : ⊥ = cc in k)
 
-module _ (files : Option Files) (s : Search) (d p q text : List ℕ) (limit : s.within ≤ 100000) (short : length text ≤ 4194304) (content : IsContent files q text) where
-  outcome-valid : (m : Problem) (t : Search) (o : Outcome) → Yes ≡ outcome_status o → HoldInput files (search s d p) (a_problem m) → IsOutcome s (plain_problem m) o → PlanFits o → text ≡ text_of (a_problem m) (searched t o) → IsValidFile files d p q text
-  outcome-valid m t (outcome.Plan actions) done stand right fit lines = plan-valid files d p q text s m actions stand right fit lines limit short content
-  outcome-valid m t outcome.NoPlan done stand right fit lines = absurd (let k : ⊥ = cc in k)
-  outcome-valid m t outcome.NoneWithin done stand right fit lines = absurd (let k : ⊥ = cc in k)
-  outcome-valid m t outcome.Spent done stand right fit lines = absurd (let k : ⊥ = cc in k)
-
-  answer-valid : (x : Input) (a : Answer) → Yes ≡ status_of a → HoldInput files (search s d p) x → IsRightAnswer (search s d p) x a → AnswerFits a → text ≡ text_of x a → IsValidFile files d p q text
-  answer-valid (a_problem m) (searched t o) done stand right fit lines = outcome-valid m t o done stand right.1 fit lines
-  answer-valid (a_problem m) (past_range after note path) done stand right fit lines = absurd (let k : ⊥ = cc in k)
-  answer-valid x a done stand right fit lines = absurd right
-
-  unproved-valid : (m : Problem) (t : Search) (o : Outcome) → No ≡ unproved_status o → HoldInput files (prove_none s d p) (a_problem m) → IsOutcome s (plain_problem m) o → LeavesNoProof o → PlanFits o → text ≡ text_of (a_problem m) (unproved t o) → IsValidFile files d p q text
-  unproved-valid m t (outcome.Plan actions) done stand right leaves fit lines = plan-valid files d p q text s m actions stand right fit lines limit short content
-  unproved-valid m t outcome.NoPlan done stand right leaves fit lines = absurd leaves
-  unproved-valid m t outcome.NoneWithin done stand right leaves fit lines = absurd leaves
-  unproved-valid m t outcome.Spent done stand right leaves fit lines = absurd (let k : ⊥ = cc in k)
-
-  in-place-valid : (x : Input) (a : Answer) → No ≡ status_of a → HoldInput files (prove_none s d p) x → IsRightAnswer (prove_none s d p) x a → AnswerFits a → text ≡ text_of x a → IsValidFile files d p q text
-  in-place-valid (a_problem m) (certified t certificate) done stand right fit lines = absurd (let k : ⊥ = cc in k)
-  in-place-valid (a_problem m) (unproved t o) done stand right fit lines = unproved-valid m t o done stand right.1 right.2 fit lines
-  in-place-valid (a_problem m) (past_range after note path) done stand right fit lines = absurd (let k : ⊥ = cc in k)
-  in-place-valid x a done stand right fit lines = absurd right
+  in-place-valid : IsAnswer files (prove_none s d p) told No text → IsValidFile files d p q text
+  in-place-valid (inl (m, stand, inl h)) = absurd (let e : No ≡ Yes = h.status_is in let k : ⊥ = cc in k)
+  in-place-valid (inl (m, stand, inr (inl h))) = unproved-valid m h.what h.status_is stand h.right.0 h.right.1 (h.right.2 refl) h.text_is
+  in-place-valid (inl (m, stand, inr (inr h))) = absurd (let e : No ≡ Range = h.3 in let k : ⊥ = cc in k)
+  in-place-valid (inr h) = let refuses = h.2 in absurd (let e : No ≡ Refused = refuses.1 in let k : ⊥ = cc in k)
 
   bound-writable : (o : Outcome) (bound : Option ℕ) → IsBoundOf s.within o bound → proof.IsBoundWritable bound
   bound-writable (outcome.Plan actions) bound h = absurd h
@@ -293,7 +272,7 @@ module _ (files : Option Files) (s : Search) (d p q text : List ℕ) (limit : s.
         lawful = back.unbroken;
         meant = (refl, sym back.meant);
       } in
-      record { problem = m; proof = certificate; lines = lines; proved = (one-more files d p q text role.Proof m (a_proof m certificate) stand content stands, right.covers) }
+      (m, certificate, one-more files d p q text role.Proof m (a_proof m certificate) stand content stands, (lines, right.covers))
 
   no-proof : (o : Outcome) → Yes ≡ unproved_status o → ⊥
   no-proof (outcome.Plan actions) done = let k : ⊥ = cc in k
@@ -301,21 +280,15 @@ module _ (files : Option Files) (s : Search) (d p q text : List ℕ) (limit : s.
   no-proof outcome.NoneWithin done = let k : ⊥ = cc in k
   no-proof outcome.Spent done = let k : ⊥ = cc in k
 
-  answer-proved : (x : Input) (a : Answer) → Yes ≡ status_of a → HoldInput files (prove_none s d p) x → IsRightAnswer (prove_none s d p) x a → AnswerFits a → text ≡ text_of x a → IsProofFile files d p q text
-  answer-proved (a_problem m) (certified t certificate) done stand right fit lines = certificate-proved m certificate stand right.1 fit lines
-  answer-proved (a_problem m) (unproved t o) done stand right fit lines = absurd (no-proof o done)
-  answer-proved (a_problem m) (past_range after note path) done stand right fit lines = absurd (let k : ⊥ = cc in k)
-  answer-proved x a done stand right fit lines = absurd right
+  answer-proved : IsAnswer files (prove_none s d p) told Yes text → IsProofFile files d p q text
+  answer-proved (inl (m, stand, inl h)) = certificate-proved m h.what stand h.right.0 (h.right.1 refl) h.text_is
+  answer-proved (inl (m, stand, inr (inl h))) = absurd (no-proof h.what h.status_is)
+  answer-proved (inl (m, stand, inr (inr h))) = absurd (let e : Yes ≡ Range = h.3 in let k : ⊥ = cc in k)
+  answer-proved (inr h) = let refuses = h.2 in absurd (let e : Yes ≡ Refused = refuses.1 in let k : ⊥ = cc in k)
 
 pub printed-plans-valid : PrintedPlansAreValid
-printed-plans-valid files s d p q text told (inl h) limit short content =
-    let right = not-refused files (search s d p) h.input h.answer (yes-is-other h.answer h.status_is) h.allowed in
-    answer-valid files s d p q text limit short content h.input h.answer h.status_is right.0 right.1 h.fits h.text_is
-printed-plans-valid files s d p q text told (inr h) limit short content =
-    let right = not-refused files (prove_none s d p) h.input h.answer (no-is-other h.answer h.status_is) h.allowed in
-    in-place-valid files s d p q text limit short content h.input h.answer h.status_is right.0 right.1 h.fits h.text_is
+printed-plans-valid files s d p q text told (inl h) limit short content = answer-valid files s d p q text told limit short content h
+printed-plans-valid files s d p q text told (inr h) limit short content = in-place-valid files s d p q text told limit short content h
 
 pub printed-proofs-proved : PrintedProofsAreProved
-printed-proofs-proved files s d p q text told h limit short content =
-    let right = not-refused files (prove_none s d p) h.input h.answer (yes-is-other h.answer h.status_is) h.allowed in
-    answer-proved files s d p q text limit short content h.input h.answer h.status_is right.0 right.1 h.fits h.text_is
+printed-proofs-proved files s d p q text told h limit short content = answer-proved files s d p q text told limit short content h

@@ -1,5 +1,5 @@
 -- Replies to commands.
-use Rattle.std.proofs.Common.{◌≡◌, inl, inr, ℕ, List, [], ◌∷◌, map, length, refl, sym, subst}
+use Rattle.std.proofs.Common.{◌≡◌, inl, inr, ℕ, List, [], ◌∷◌, map, length, true, refl, sym, subst}
 use Rattle.std.specs.Prelude.{Option, Result, Ok, Err, IfOk, false}
 use Rattle.tl_action.specs.Actions.{HasOperator}
 use Rattle.tl_cert.specs.Causes.{IsNoneCause}
@@ -32,13 +32,13 @@ use Rattle.tl_run.specs.declared.status.Status.{Status}
 use Rattle.tl_run.specs.declared.status.Status.TheVariants.{Yes, Refused, Range}
 use Rattle.tl_run.specs.declared.stop.Broken.{Broken}
 use Rattle.tl_run.specs.declared.search.Search.{Search}
-use Rattle.tl_run.specs.Answers.{Answer, refusal, past_range, judged, searched, traced, IsRightAnswer, verdict_status, explained, certified, unproved, judged_proof, sampled, costed, judged_loop}
+use Rattle.tl_run.specs.Answers.{Answers, verdict_status}
 use Rattle.tl_run.specs.Commands.{Command, check, search, trace, explain, prove_none, check_none, sample, cheapest, check_loop}
-use Rattle.tl_run.specs.Inputs.{Input, nothing, a_problem, a_plan, a_proof, some_costs, a_loop}
+use Rattle.tl_run.specs.Inputs.{Input, a_problem, a_plan, a_proof, some_costs, a_loop}
 use Rattle.tl_run.specs.Cheapest.{CheapestEndsPastRange}
 use Rattle.tl_run.specs.CheckLoop.{loop_status}
 use Rattle.tl_run.specs.Plan.{IsOutcome, EndsPastRange}
-use Rattle.tl_run.specs.Promises.{Allows, IsAnswer, LeavesOff}
+use Rattle.tl_run.specs.Promises.{IsAnswer}
 use Rattle.tl_run.specs.Refusals.{refusal_text}
 use Rattle.tl_run.specs.Replies.{Replies}
 use Rattle.tl_run.specs.Sample.{IsSummary, sample_search, sample_text}
@@ -58,144 +58,82 @@ of_operators p (a ∷ plan) h =
 
 -- the reply with a verdict
 pub verdict_replied : {E : Type 0} (d p q : List ℕ) (problem : Problem) (plan : List Action) (v : Verdict) (r : Result Reply E) → IsVerdict (plain_problem problem) plan v → IfOk r (λ reply. reply.status ≡ verdict_status v) → IfOk r (λ reply. reply.text ≡ verdict_text v) → IfOk r (Replies (check d p q) (a_plan problem plan))
-verdict_replied d p q problem plan v (Ok reply) right s t = record { answer = judged v; right = right; fits = tt; status_is = s; text_is = t }
+verdict_replied d p q problem plan v (Ok reply) right s t = record { right = inl (record { what = v; right = right; status_is = s; text_is = t }) }
 verdict_replied d p q problem plan v (Err e) right s t = tt
 
 -- the reply with an operation past range
 pub range_replied : (d p q : List ℕ) (problem : Problem) (plan : List Action) (after : ℕ) (note : RangeNote) (text : List ℕ) → IsCause (plain_problem problem) plan (fault.Range after note) → text ≡ range_text problem.names problem.domain.operators note after [] → Replies (check d p q) (a_plan problem plan) (record { status = Range; text = text })
-range_replied d p q problem plan after note text cause t = record { answer = past_range after note []; right = (cause, refl); fits = tt; status_is = refl; text_is = t }
+range_replied d p q problem plan after note text cause t = record { right = inr (after, note, cause, refl, t) }
 
 -- the reply where a search ends at an operation past range
 pub search_range_replied : (s : Search) (d p : List ℕ) (problem : Problem) (note : RangeNote) (path : List Action) (text : List ℕ) → EndsPastRange s (plain_problem problem) path note → text ≡ range_text problem.names problem.domain.operators note (length path) path → Replies (search s d p) (a_problem problem) (record { status = Range; text = text })
-search_range_replied s d p problem note path text cause t = record { answer = past_range (length path) note path; right = (cause, refl); fits = tt; status_is = refl; text_is = t }
+search_range_replied s d p problem note path text cause t = record { right = inr (path, note, cause, refl, t) }
 
 -- and so does a trace
 pub trace_range_replied : (s : Search) (d p : List ℕ) (problem : Problem) (note : RangeNote) (path : List Action) (text : List ℕ) → EndsPastRange s (plain_problem problem) path note → text ≡ range_text problem.names problem.domain.operators note (length path) path → Replies (trace s d p) (a_problem problem) (record { status = Range; text = text })
-trace_range_replied s d p problem note path text cause t = record { answer = past_range (length path) note path; right = (cause, refl); fits = tt; status_is = refl; text_is = t }
+trace_range_replied s d p problem note path text cause t = record { right = inr (path, note, cause, refl, t) }
 
 -- the reply with the lines that explain a plan
 pub explained_replied : (d p q : List ℕ) (problem : Problem) (plan : List Action) (text : List ℕ) → text ≡ explain_text problem plan → Replies (explain d p q) (a_plan problem plan) (record { status = Yes; text = text })
-explained_replied d p q problem plan text t = record { answer = explained; right = tt; fits = tt; status_is = refl; text_is = t }
+explained_replied d p q problem plan text t = record { right = inl (refl, t) }
 
 -- the reply with an operation past range that is looked at along a plan
 pub explain_range_replied : (d p q : List ℕ) (problem : Problem) (plan : List Action) (after : ℕ) (note : RangeNote) (text : List ℕ) → IsPastInExplanation (plain_problem problem) plan after note → text ≡ range_text problem.names problem.domain.operators note after [] → Replies (explain d p q) (a_plan problem plan) (record { status = Range; text = text })
-explain_range_replied d p q problem plan after note text cause t = record { answer = past_range after note []; right = (cause, refl); fits = tt; status_is = refl; text_is = t }
+explain_range_replied d p q problem plan after note text cause t = record { right = inr (after, note, cause, refl, t) }
 
 -- and so does the search of `prove-none`
 pub prove_none_range_replied : (s : Search) (d p : List ℕ) (problem : Problem) (note : RangeNote) (path : List Action) (text : List ℕ) → EndsPastRange s (plain_problem problem) path note → text ≡ range_text problem.names problem.domain.operators note (length path) path → Replies (prove_none s d p) (a_problem problem) (record { status = Range; text = text })
-prove_none_range_replied s d p problem note path text cause t = record { answer = past_range (length path) note path; right = (cause, refl); fits = tt; status_is = refl; text_is = t }
+prove_none_range_replied s d p problem note path text cause t = record { right = inr (inr (path, note, cause, refl, t)) }
 
 -- the reply where the check of a proof does
 pub proof_range_replied : (d p q : List ℕ) (problem : Problem) (proof : Proof) (note : RangeNote) (path : List Action) (text : List ℕ) → IsNoneCause (plain_problem problem) proof.bound proof.links path (operation_of note) → text ≡ range_text problem.names problem.domain.operators note (length path) path → Replies (check_none d p q) (a_proof problem proof) (record { status = Range; text = text })
-proof_range_replied d p q problem proof note path text cause t = record { answer = past_range (length path) note path; right = (cause, refl); fits = tt; status_is = refl; text_is = t }
+proof_range_replied d p q problem proof note path text cause t = record { right = inr (path, note, cause, refl, t) }
 
 -- the reply with the lines of a sample
 pub summary_replied : {E : Type 0} (m : ℕ) (problem : Problem) (kept : ℕ) (o : Outcome) (v : Option Verdict) (r : Result Reply E) → IsSummary m (plain_problem problem) kept o v → IfOk r (λ reply. reply.status ≡ Yes) → IfOk r (λ reply. reply.text ≡ sample_text m kept o v) → IfOk r (Replies (sample m) (a_problem problem))
-summary_replied m problem kept o v (Ok reply) right s t = record { answer = sampled m kept o v; right = (refl, right); fits = tt; status_is = s; text_is = t }
+summary_replied m problem kept o v (Ok reply) right s t = record { right = inl (record { kept = kept; ended = o; verdict = v; right = right; status_is = s; text_is = t }) }
 summary_replied m problem kept o v (Err e) right s t = tt
 
 -- the reply where the search of a sample ends at an operation past range
 pub sample_range_replied : (m : ℕ) (s : Search) (problem : Problem) (note : RangeNote) (path : List Action) (text : List ℕ) → s ≡ sample_search m → EndsPastRange s (plain_problem problem) path note → text ≡ range_text problem.names problem.domain.operators note (length path) path → Replies (sample m) (a_problem problem) (record { status = Range; text = text })
-sample_range_replied m s problem note path text e cause t = record {
-  answer = past_range (length path) note path;
-  right = inl (subst (λ (u : Search). EndsPastRange u (plain_problem problem) path note) e cause, refl);
-  fits = tt;
-  status_is = refl;
-  text_is = t;
-}
+sample_range_replied m s problem note path text e cause t =
+    record { right = inr (inl (path, note, subst (λ (u : Search). EndsPastRange u (plain_problem problem) path note) e cause, refl, t)) }
 
 -- the reply where the check of its plan does
 pub check_range_replied : (m : ℕ) (problem : Problem) (plan : List Action) (after : ℕ) (note : RangeNote) (text : List ℕ) → IsOutcome (sample_search m) (plain_problem problem) (outcome.Plan plan) → IsCause (plain_problem problem) plan (fault.Range after note) → text ≡ range_text problem.names problem.domain.operators note after [] → Replies (sample m) (a_problem problem) (record { status = Range; text = text })
-check_range_replied m problem plan after note text found cause t = record {
-  answer = past_range after note [];
-  right = inr (record { plan = plan; found = found; cause = cause }, refl);
-  fits = tt;
-  status_is = refl;
-  text_is = t;
-}
+check_range_replied m problem plan after note text found cause t =
+    record { right = inr (inr (after, note, record { plan = plan; found = found; cause = cause }, refl, t)) }
 
 -- the reply where the search for a cheapest plan ends at an operation past range
 pub cheapest_range_replied : (b : ℕ) (d p k : List ℕ) (problem : Problem) (costs : List ℕ) (note : RangeNote) (path : List Action) (text : List ℕ) → CheapestEndsPastRange b (plain_problem problem) costs path note → text ≡ range_text problem.names problem.domain.operators note (length path) path → Replies (cheapest b d p k) (some_costs problem costs) (record { status = Range; text = text })
-cheapest_range_replied b d p k problem costs note path text cause t = record { answer = past_range (length path) note path; right = (cause, refl); fits = tt; status_is = refl; text_is = t }
+cheapest_range_replied b d p k problem costs note path text cause t = record { right = inr (path, note, cause, refl, t) }
 
 -- the reply with a verdict on a plan with a repeated part
 pub loop_verdict_replied : {E : Type 0} (d p q : List ℕ) (problem : Problem) (plan : LoopPlan) (v : LoopVerdict) (r : Result Reply E) → IsLoopVerdict (plain_problem problem) plan.stem plan.cycle v → IfOk r (λ reply. reply.status ≡ loop_status v) → IfOk r (λ reply. reply.text ≡ loop_text v) → IfOk r (Replies (check_loop d p q) (a_loop problem plan))
-loop_verdict_replied d p q problem plan v (Ok reply) right s t = record { answer = judged_loop v; right = right; fits = tt; status_is = s; text_is = t }
+loop_verdict_replied d p q problem plan v (Ok reply) right s t = record { right = inl (record { what = v; right = right; status_is = s; text_is = t }) }
 loop_verdict_replied d p q problem plan v (Err e) right s t = tt
 
 -- the reply with an operation past range that the check of one looks at
 pub loop_range_replied : (d p q : List ℕ) (problem : Problem) (plan : LoopPlan) (after : ℕ) (note : RangeNote) (text : List ℕ) → IsLoopCause (plain_problem problem) plan.stem plan.cycle (fault.Range after note) → text ≡ range_text problem.names problem.domain.operators note after [] → Replies (check_loop d p q) (a_loop problem plan) (record { status = Range; text = text })
-loop_range_replied d p q problem plan after note text cause t = record { answer = past_range after note []; right = (cause, refl); fits = tt; status_is = refl; text_is = t }
+loop_range_replied d p q problem plan after note text cause t = record { right = inr (after, note, cause, refl, t) }
 
--- a refusal is not right of what files stand for: one line for each command
-never_right : (c : Command) (x : Input) (number : ℕ) (m : Broken) → IsRightAnswer c x (refusal number m) → ⊥
-never_right (check d p q) (a_plan problem plan) number m right = right
-never_right (check d p q) x number m right = right
-never_right (search s d p) (a_problem problem) number m right = right
-never_right (search s d p) x number m right = right
-never_right (trace s d p) (a_problem problem) number m right = right
-never_right (trace s d p) x number m right = right
-never_right (explain d p q) (a_plan problem plan) number m right = right
-never_right (explain d p q) x number m right = right
-never_right (prove_none s d p) (a_problem problem) number m right = right
-never_right (prove_none s d p) x number m right = right
-never_right (check_none d p q) (a_proof problem proof) number m right = right
-never_right (check_none d p q) x number m right = right
-never_right (sample n) (a_problem problem) number m right = right
-never_right (sample n) x number m right = right
-never_right (cheapest b d p k) (some_costs problem costs) number m right = right
-never_right (cheapest b d p k) x number m right = right
-never_right (check_loop d p q) (a_loop problem plan) number m right = right
-never_right (check_loop d p q) x number m right = right
+-- a right reply over the input is right over the files: one line for each command
+right_answers : (files : Option Files) (c : Command) (x : Input) (reply : Reply) → HoldInput files c x → Replies c x reply → Answers true files c reply.status reply.text
+right_answers files (check d p q) (a_plan m plan) reply stand r = (m, plan, stand, r.right)
+right_answers files (search s d p) (a_problem m) reply stand r = (m, stand, r.right)
+right_answers files (trace s d p) (a_problem m) reply stand r = (m, stand, r.right)
+right_answers files (explain d p q) (a_plan m plan) reply stand r = (m, plan, stand, r.right)
+right_answers files (prove_none s d p) (a_problem m) reply stand r = (m, stand, r.right)
+right_answers files (check_none d p q) (a_proof m proof) reply stand r = (m, proof, stand, r.right)
+right_answers files (sample n) (a_problem m) reply stand r = (m, stand, r.right)
+right_answers files (cheapest b d p k) (some_costs m costs) reply stand r = (m, costs, stand, r.right)
+right_answers files (check_loop d p q) (a_loop m plan) reply stand r = (m, plan, stand, r.right)
+right_answers files c x reply stand r = absurd r.right
 
-right_allowed : (files : Option Files) (c : Command) (x : Input) (a : Answer) → HoldInput files c x → IsRightAnswer c x a → Allows files c x a
-right_allowed files c x (refusal number m) stand right = absurd (never_right c x number m right)
-right_allowed files c x (past_range after note path) stand right = (stand, right)
-right_allowed files c x (judged v) stand right = (stand, right)
-right_allowed files c x (searched s o) stand right = (stand, right)
-right_allowed files c x (traced s kept events o) stand right = (stand, right)
-right_allowed files c x explained stand right = (stand, right)
-right_allowed files c x (certified s proof) stand right = (stand, right)
-right_allowed files c x (unproved s o) stand right = (stand, right)
-right_allowed files c x (judged_proof v) stand right = (stand, right)
-right_allowed files c x (sampled n kept o v) stand right = (stand, right)
-right_allowed files c x (costed b o) stand right = (stand, right)
-right_allowed files c x (judged_loop v) stand right = (stand, right)
-
-right_leaves : (files : Option Files) (c : Command) (told : CallsTold) (x : Input) (a : Answer) → IsRightAnswer c x a → LeavesOff c told a
-right_leaves files c told x (refusal number m) right = absurd (never_right c x number m right)
-right_leaves files c told x (past_range after note path) right = tt
-right_leaves files c told x (judged v) right = tt
-right_leaves files c told x (searched s o) right = tt
-right_leaves files c told x (traced s kept events o) right = tt
-right_leaves files c told x explained right = tt
-right_leaves files c told x (certified s proof) right = tt
-right_leaves files c told x (unproved s o) right = tt
-right_leaves files c told x (judged_proof v) right = tt
-right_leaves files c told x (sampled n kept o v) right = tt
-right_leaves files c told x (costed b o) right = tt
-right_leaves files c told x (judged_loop v) right = tt
-
--- a right reply over the input is an answer that the files allow
+-- so it is an answer that the files allow
 pub reply_answers : (files : Option Files) (c : Command) (told : CallsTold) (x : Input) (reply : Reply) → HoldInput files c x → Replies c x reply → IsAnswer files c told reply.status reply.text
-reply_answers files c told x reply stand r = record {
-  input = x;
-  answer = r.answer;
-  allowed = right_allowed files c x r.answer stand r.right;
-  leaves = right_leaves files c told x r.answer r.right;
-  fits = r.fits;
-  status_is = r.status_is;
-  text_is = r.text_is;
-}
+reply_answers files c told x reply stand r = inl (right_answers files c x reply stand r)
 
--- so is the line of a refusal
+-- and so is the line of a refusal
 pub refusal_answers : (files : Option Files) (c : Command) (told : CallsTold) (number : ℕ) (m : Broken) (status : Status) (text : List ℕ) → IsRefused files c number m × BeginsFirst c told number false → status ≡ Refused → text ≡ refusal_text number m → IsAnswer files c told status text
-refusal_answers files c told number m status text h s t = record {
-  input = nothing;
-  answer = refusal number m;
-  allowed = h.0;
-  leaves = h.1;
-  fits = tt;
-  status_is = s;
-  text_is = t;
-}
+refusal_answers files c told number m status text h s t = inr (number, m, (h.0, s, t), h.1)

@@ -1,18 +1,12 @@
--- What a costs file breaks and means, and the lines of a cheapest plan, depend on the names and the numbers of parameters of the operators alone.
-use Rattle.std.proofs.Common.{◌≡◌, ℕ, List, [], ◌∷◌, ◌++◌, map, length, Option, Some, None, refl, sym, ap, ◌∙◌}
-use Rattle.std.specs.Prelude.{ℤ, codes, replicate, unwrap_or}
+-- What a costs file breaks and means goes by the names of operators and how many parameters they have.
+use Rattle.std.proofs.Common.{◌≡◌, ℕ, List, ◌++◌, map, length, Option, Some, None, refl, sym, ap, ◌∙◌}
+use Rattle.std.specs.Prelude.{ℤ, replicate, unwrap_or}
 use Rattle.std.specs.List.{slice_set}
 use Rattle.std.proofs.lemmas.List.{length-map}
 use Rattle.tl_sexpr.specs.Tree.{FormTree, FormTrees, no_form, more_forms}
-use Rattle.tl_syntax.specs.declared.action.Action.{Action}
 use Rattle.tl_syntax.specs.declared.operator.Operator.{Operator}
 use Rattle.tl_rules.specs.Parts.{offset_of}
-use Rattle.tl_line.specs.ActionTexts.{values_text}
 use Rattle.tl_cost.specs.CostFiles.{cost_breaks, cost_meant, costs_breaks, costs_meant, entries_breaks, entry_breaks, entry_of_form, given_after, none_given, parts_breaks, parts_meant, with_entry}
-use Rattle.tl_cost.specs.CostTexts.{cheapest_line, cost_text, plan_lines}
-use Rattle.tl_cost.specs.declared.outcome.CostOutcome.{CostOutcome}
-use Rattle.tl_cost.specs.declared.outcome.CostOutcome.TheVariants as outcome
-use Rattle.tl_run.proofs.SameLines.{same_name}
 use Rattle.tl_run.proofs.SameOperators.{head_of, same_operator}
 
 module _ (names : List (List ℕ)) (os us : List Operator) (alike : map head_of os ≡ map head_of us) where
@@ -61,16 +55,3 @@ module _ (names : List (List ℕ)) (os us : List Operator) (alike : map head_of 
   pub same_costs_meant : (fs : FormTrees) → costs_meant names os fs ≡ costs_meant names us fs
   same_costs_meant fs =
       ap (λ (given : List (Option ℕ)). map (λ (c : Option ℕ). unwrap_or c 1) given) (same_given (none_given os) fs ∙ ap (λ (g : List (Option ℕ)). given_after names us g fs) same_none)
-
-  same_plan_lines : (plan : List Action) → plan_lines names os plan ≡ plan_lines names us plan
-  same_plan_lines [] = refl
-  same_plan_lines (a ∷ plan) =
-      let name = same_name names os us alike a.op in
-      let others = same_plan_lines plan in
-      λ i. (codes "(" ++ (name i ++ (values_text names a.args ++ codes ")"))) ++ (codes "\n" ++ others i)
-
-  -- the lines of an outcome are the same
-  pub same_cost_text : (b : ℕ) (o : CostOutcome) → cost_text names os b o ≡ cost_text names us b o
-  same_cost_text b (outcome.Plan plan cost) = ap (λ (lines : List ℕ). cheapest_line (length plan) cost ++ lines) (same_plan_lines plan)
-  same_cost_text b outcome.NoPlan = refl
-  same_cost_text b outcome.Spent = refl

@@ -1,5 +1,5 @@
 -- What a proof file breaks and means, and the lines of proofs and of their verdicts, depend on the names and the numbers of parameters of the operators alone.
-use Rattle.std.proofs.Common.{◌≡◌, ℕ, ◌+◌, List, [], ◌∷◌, ◌++◌, not, map, Option, Some, None, refl, ap}
+use Rattle.std.proofs.Common.{◌≡◌, ℕ, ◌+◌, List, ◌∷◌, ◌++◌, not, map, Option, Some, None, refl, ap}
 use Rattle.std.specs.Prelude.{ℤ, codes}
 use Rattle.std.specs.Fmt.{decimal}
 use Rattle.tl_sexpr.specs.Tree.{FormTree, FormTrees, no_form, more_forms}
@@ -12,9 +12,7 @@ use Rattle.tl_line.specs.ActionLists.{limit_breaks}
 use Rattle.tl_line.specs.ActionTexts.{action_text, values_text}
 use Rattle.tl_cert.specs.MeaningOfProofs.{length_bound_meant, link_meant_by, links_meant, proof_meant}
 use Rattle.tl_cert.specs.ProofFiles.{proof_head_breaks, link_breaks_at, link_parts, links_breaks, proof_breaks}
-use Rattle.tl_cert.specs.ProofTexts.{head_line, link_line, link_lines, proof_verdict_text, proof_text}
-use Rattle.tl_cert.specs.declared.proof.Link.{Link}
-use Rattle.tl_cert.specs.declared.proof.Proof.{Proof}
+use Rattle.tl_cert.specs.ProofTexts.{proof_verdict_text}
 use Rattle.tl_cert.specs.declared.verdict.NoneVerdict.{NoneVerdict}
 use Rattle.tl_cert.specs.declared.verdict.NoneVerdict.TheVariants.{Proved, BadLink, Accepts, Open}
 use Rattle.tl_run.proofs.SameLines.{same_name}
@@ -64,23 +62,7 @@ module _ (names : List (List ℕ)) (os us : List Operator) (alike : map head_of 
       let name = same_name names os us alike a.op in
       λ i. codes "(" ++ (name i ++ (values_text names a.args ++ codes ")"))
 
-  same_link_line : (l : Link) → link_line names os l ≡ link_line names us l
-  same_link_line l =
-      let action = same_action_text l.action in
-      λ i. codes "(pair " ++ (decimal l.from ++ (codes " " ++ (action i ++ codes ")\n")))
-
-  same_link_lines : (ls : List Link) → link_lines names os ls ≡ link_lines names us ls
-  same_link_lines [] = refl
-  same_link_lines (l ∷ ls) =
-      let first = same_link_line l in
-      let others = same_link_lines ls in
-      λ i. first i ++ others i
-
-  -- the lines of a proof are the same
-  pub same_proof_text : (proof : Proof) → proof_text names os proof ≡ proof_text names us proof
-  same_proof_text proof = ap (λ lines. head_line proof.bound ++ lines) (same_link_lines proof.links)
-
-  -- and so is the line of a verdict on one
+  -- and the line of a verdict on one is the same
   pub same_none_text : (bound : Option ℕ) (v : NoneVerdict) → proof_verdict_text names os bound v ≡ proof_verdict_text names us bound v
   same_none_text bound Proved = refl
   same_none_text bound (BadLink k) = refl

@@ -1,5 +1,5 @@
 -- Laws of the right answers of `sample`.
-use Rattle.std.proofs.Common.{◌≡◌, inl, inr, ℕ, ◌*◌, List, [], ◌∷◌, length, Some, None, refl, sym, ap, ◌∙◌, subst}
+use Rattle.std.proofs.Common.{◌≡◌, inl, inr, ℕ, ◌*◌, List, [], ◌∷◌, Some, None, sym, ap, ◌∙◌, subst}
 use Rattle.std.specs.Prelude.{Option}
 use Rattle.tl_check.specs.LawsVerdict.{OneVerdict}
 use Rattle.tl_check.specs.Verdicts.{IsCause}
@@ -21,44 +21,52 @@ use Rattle.tl_terms.specs.Operations.{Operation}
 use Rattle.tl_terms.specs.Problem.{PlainProblem}
 use Rattle.tl_terms.specs.ProblemMeaning.{plain_problem}
 use Rattle.tl_run.specs.declared.search.Mode.TheVariants.{Depth}
-use Rattle.tl_run.specs.Answers.{Answer, past_range, sampled, IsRightAnswer, status_of, text_of}
+use Rattle.tl_run.specs.declared.status.Status.{Status}
+use Rattle.tl_run.specs.Answers.{GivesSummary, Samples}
 use Rattle.tl_run.specs.Commands.{sample}
-use Rattle.tl_run.specs.Inputs.{Input, a_problem}
+use Rattle.tl_run.specs.Inputs.{a_problem}
 use Rattle.tl_run.specs.Laws.{Laws}
-use Rattle.tl_run.specs.Promises.{Headline, IsCalmStatus}
-use Rattle.tl_run.specs.Sample.{IsJudged, IsSummary, SampleEndsPastRange, Summarizes, sample_text}
+use Rattle.tl_run.specs.Plan.{EndsPastRange}
+use Rattle.tl_run.specs.Promises.{Agrees, Headline, IsOwn}
+use Rattle.tl_run.specs.Sample.{CheckEndsPastRange, IsJudged, IsSummary, Summarizes, sample_search, sample_text}
 use Rattle.tl_run.specs.Turns.{HoldInput}
-use Rattle.tl_run.proofs.Agreement.{Agrees}
-use Rattle.tl_run.proofs.OneOutcome.{one_outcome, plan_within, no_plan, no_plan_within}
-use Rattle.tl_run.proofs.SameInputs.{SameInput}
+use Rattle.tl_run.proofs.Agreement.{IsDone, from_range, to_range}
+use Rattle.tl_run.proofs.OneOutcome.{plan_within, no_plan, no_plan_within}
+use Rattle.tl_run.proofs.OneProblem.{SameProblem}
+use Rattle.tl_run.proofs.SearchLaws.{outcomes_of_one}
 
-summary_agrees : Laws → (m n : ℕ) (p : Problem) (kept : ℕ) (o : Outcome) (v : Option Verdict) (y : Input) (b : Answer) → SameInput (a_problem p) y → n ≡ m → IsSummary m (plain_problem p) kept o v → IsRightAnswer (sample m) y b → Agrees (a_problem p) (sampled n kept o v) (status_of b) (text_of y b)
-summary_agrees laws m n p kept o v (a_problem q) (sampled l other u w) same e h k =
-    let there : IsSummary m (plain_problem p) other u w = subst (λ (x : PlainProblem). IsSummary m x other u w) (sym same.meaning) k.1 in
+pub sample_done : (m : ℕ) (status : Status) (text : List ℕ) (p : Problem) → Samples m status text p → IsDone status
+sample_done m status text p (inl h) = subst IsDone (sym h.status_is) tt
+sample_done m status text p (inr (inl h)) = subst IsDone (sym h.3) tt
+sample_done m status text p (inr (inr h)) = subst IsDone (sym h.3) tt
+
+-- two right summaries are alike
+summaries_agree : Laws → (m : ℕ) (status given : Status) (text lines : List ℕ) (p q : Problem) → SameProblem p q → GivesSummary m status text p → GivesSummary m given lines q → Agrees (sample m) status text given lines
+summaries_agree laws m status given text lines p q same h k =
+    let here : IsSummary m (plain_problem p) h.kept h.ended h.verdict = h.right in
+    let there : IsSummary m (plain_problem q) k.kept k.ended k.verdict = k.right in
     inl (
-      refl,
-      record {
-        kept = other;
-        ended = u;
-        verdict = w;
-        right = subst (λ (i : ℕ). IsSummary i (plain_problem p) other u w) (sym e) there;
-        alike = one_outcome laws Depth (3 * m) 20000 (plain_problem p) o u h.ended there.ended;
-        lines = ap (λ (i : ℕ). sample_text i other u w) (k.0 ∙ sym e);
-      },
+      k.status_is ∙ sym h.status_is,
+      inr (record {
+        kept = h.kept;
+        ended = h.ended;
+        verdict = h.verdict;
+        text_is = h.text_is;
+        other_kept = k.kept;
+        other_ended = k.ended;
+        other_verdict = k.verdict;
+        given_is = k.text_is;
+        alike = outcomes_of_one laws (sample_search m) p q h.ended k.ended same here.ended there.ended;
+      }),
     )
-summary_agrees laws m n p kept o v (a_problem q) (past_range after note path) same e h k = inr tt
-summary_agrees laws m n p kept o v y b same e h k = absurd k
 
-past_range_agrees : (m : ℕ) (x y : Input) (after : ℕ) (note : RangeNote) (path : List Action) (b : Answer) → IsRightAnswer (sample m) y b → Agrees x (past_range after note path) (status_of b) (text_of y b)
-past_range_agrees m x (a_problem q) after note path (sampled n kept o v) k = inr tt
-past_range_agrees m x (a_problem q) after note path (past_range since told route) k = inr tt
-past_range_agrees m x y after note path b k = absurd k
-
--- of two right answers over the same input each agrees with the other
-pub sample_agrees : Laws → (m : ℕ) (x y : Input) (a b : Answer) → SameInput x y → IsRightAnswer (sample m) x a → IsRightAnswer (sample m) y b → Agrees x a (status_of b) (text_of y b)
-sample_agrees laws m (a_problem p) y (sampled n kept o v) b same h k = summary_agrees laws m n p kept o v y b same h.0 h.1 k
-sample_agrees laws m (a_problem p) y (past_range after note path) b same h k = past_range_agrees m (a_problem p) y after note path b k
-sample_agrees laws m x y a b same h k = absurd h
+-- of two right answers over the same problem each agrees with the other
+pub sample_agrees : Laws → (m : ℕ) (status given : Status) (text lines : List ℕ) (p q : Problem) → SameProblem p q → Samples m status text p → Samples m given lines q → Agrees (sample m) status text given lines
+sample_agrees laws m status given text lines p q same (inl h) (inl k) = summaries_agree laws m status given text lines p q same h k
+sample_agrees laws m status given text lines p q same h (inr (inl k)) = to_range (sample m) status given text lines (sample_done m status text p h) k.3
+sample_agrees laws m status given text lines p q same h (inr (inr k)) = to_range (sample m) status given text lines (sample_done m status text p h) k.3
+sample_agrees laws m status given text lines p q same (inr (inl h)) k = from_range (sample m) status given text lines h.3 (sample_done m given lines q k)
+sample_agrees laws m status given text lines p q same (inr (inr h)) k = from_range (sample m) status given text lines h.3 (sample_done m given lines q k)
 
 -- the verdict on an accepted plan is that it is valid
 valid_verdict : OneVerdict → (p : PlainProblem) (plan : List Action) (v : Option Verdict) → IsAccepted p plan → IsJudged p (outcome.Plan plan) v → v ≡ Some Valid
@@ -77,21 +85,21 @@ summarizes laws m p kept outcome.Spent None text h line = line
 summarizes laws m p kept outcome.Spent (Some v) text h line = absurd h.judged
 
 -- what the headline says of a right answer
-pub sample_says : Laws → (files : Option Files) (m : ℕ) (x : Input) (a : Answer) (text : List ℕ) → HoldInput files (sample m) x → IsRightAnswer (sample m) x a → text ≡ text_of x a → Headline files (sample m) (status_of a) text
-sample_says laws files m (a_problem p) (sampled n kept o v) text stand right line =
-    let summary = right.1 in
-    (
+pub sample_says : Laws → (files : Option Files) (m : ℕ) (status : Status) (text : List ℕ) (p : Problem) → HoldInput files (sample m) (a_problem p) → Samples m status text p → Headline files (sample m) status text
+sample_says laws files m status text p stand (inl h) =
+    let summary : IsSummary m (plain_problem p) h.kept h.ended h.verdict = h.right in
+    subst (λ (x : Status). Headline files (sample m) x text) (sym h.status_is) (
       p,
       stand,
       record {
-        kept = kept;
-        ended = o;
+        kept = h.kept;
+        ended = h.ended;
         keeps = summary.keeps;
-        says = summarizes laws m (plain_problem p) kept o v text summary (line ∙ ap (λ (i : ℕ). sample_text i kept o v) right.0);
+        says = summarizes laws m (plain_problem p) h.kept h.ended h.verdict text summary h.text_is;
       },
     )
-sample_says laws files m (a_problem p) (past_range after note path) text stand right line = tt
-sample_says laws files m x a text stand right line = absurd right
+sample_says laws files m status text p stand (inr (inl h)) = subst (λ (x : Status). Headline files (sample m) x text) (sym h.3) tt
+sample_says laws files m status text p stand (inr (inr h)) = subst (λ (x : Status). Headline files (sample m) x text) (sym h.3) tt
 
 -- no note tells an operation of an empty list
 none_told : {os : List Operation} {note : RangeNote} → os ≡ [] → Tells os note → ⊥
@@ -103,17 +111,13 @@ no_cause : (p : PlainProblem) → LooksAtNothing p → (plan : List Action) (aft
 no_cause p quiet plan after note (inl h) = none_told (quiet.acting (last_of h.from h.after) h.action) h.told
 no_cause p quiet plan after note (inr h) = none_told (quiet.along (h.from ∷ h.after) after) h.told
 
-no_range : Laws → (m : ℕ) (p : PlainProblem) → LooksAtNothing p → (after : ℕ) (note : RangeNote) (path : List Action)
-    → SampleEndsPastRange m p after note path → ⊥
-no_range laws m p quiet after note path (inl h) =
-    let ends = h.0 in laws.calm p (3 * m) path (operation_of note) (quiet.searching (3 * m)) ends.0
-no_range laws m p quiet after note path (inr h) = let c = h.0 in no_cause p quiet c.plan after note c.cause
-
 -- where no arithmetic term stands in the texts, no right answer has the status Range
-pub sample_calm : Laws → (m : ℕ) (p : Problem) (x : Input) (a : Answer) → SameInput (a_problem p) x
-    → ProblemHasNoArithmetic (plain_problem p) → IsRightAnswer (sample m) x a → IsCalmStatus (status_of a)
-sample_calm laws m p (a_problem q) (sampled n kept o v) same plain right = tt
-sample_calm laws m p (a_problem q) (past_range after note path) same plain right =
-    absurd
-    (no_range laws m (plain_problem p) (laws.quiet (plain_problem p) plain) after note path (subst (λ (u : PlainProblem). SampleEndsPastRange m u after note path) (sym same.meaning) right))
-sample_calm laws m p x a same plain right = absurd right
+pub sample_calm : Laws → (m : ℕ) (status : Status) (text : List ℕ) (p q : Problem) → SameProblem p q → ProblemHasNoArithmetic (plain_problem p) → Samples m status text q → IsOwn status
+sample_calm laws m status text p q same plain (inl h) = subst IsOwn (sym h.status_is) tt
+sample_calm laws m status text p q same plain (inr (inl h)) =
+    let quiet = laws.quiet (plain_problem p) plain in
+    let ends = subst (λ (u : PlainProblem). EndsPastRange (sample_search m) u h.0 h.1) (sym same.meaning) h.2 in
+    absurd (laws.calm (plain_problem p) (3 * m) h.0 (operation_of h.1) (quiet.searching (3 * m)) ends.0)
+sample_calm laws m status text p q same plain (inr (inr h)) =
+    let c : CheckEndsPastRange m (plain_problem p) h.0 h.1 = subst (λ (u : PlainProblem). CheckEndsPastRange m u h.0 h.1) (sym same.meaning) h.2 in
+    absurd (no_cause (plain_problem p) (laws.quiet (plain_problem p) plain) c.plan h.0 h.1 c.cause)

@@ -1,69 +1,66 @@
 -- Laws of the right answers of `plan`.
-use Rattle.std.proofs.Common.{◌≡◌, inl, inr, ℕ, List, sym, ap, ◌∙◌, subst}
-use Rattle.std.specs.Prelude.{Option}
+use Rattle.std.proofs.Common.{◌≡◌, inl, inr, ℕ, List, true, false, IsTrue, sym, ◌∙◌, subst}
+use Rattle.std.specs.Prelude.{Bool, Option}
 use Rattle.tl_eval.specs.Notes.{operation_of}
-use Rattle.tl_eval.specs.declared.range.RangeNote.{RangeNote}
 use Rattle.tl_outside.specs.Told.{Files}
 use Rattle.tl_search.specs.RangeCauses.{IsRangeCause}
-use Rattle.tl_search.specs.Spent.{HasFewPairs}
 use Rattle.tl_search.specs.declared.outcome.Outcome.{Outcome}
 use Rattle.tl_search.specs.declared.outcome.Outcome.TheVariants as outcome
 use Rattle.tl_syntax.specs.declared.action.Action.{Action}
 use Rattle.tl_syntax.specs.declared.problem.Problem.{Problem}
-use Rattle.tl_terms.specs.Calm as calm
 use Rattle.tl_terms.specs.Problem.{PlainProblem}
 use Rattle.tl_terms.specs.ProblemMeaning.{plain_problem}
-use Rattle.tl_text.specs.Outcomes.{none_text, none_within_text, outcome_text, plan_text}
+use Rattle.tl_text.specs.Outcomes.{PlanFits, none_text, none_within_text, outcome_text, plan_text}
 use Rattle.tl_run.specs.declared.search.Search.{Search}
-use Rattle.tl_run.specs.Answers.{Answer, past_range, searched, IsRightAnswer, outcome_status, status_of, text_of}
-use Rattle.tl_run.specs.Commands.{search}
-use Rattle.tl_run.specs.Inputs.{Input, a_problem}
+use Rattle.tl_run.specs.declared.status.Status.{Status}
+use Rattle.tl_run.specs.Answers.{PastRangeAt, Searches, outcome_status}
+use Rattle.tl_run.specs.Commands.{Command, search}
+use Rattle.tl_run.specs.Inputs.{a_problem}
 use Rattle.tl_run.specs.Laws.{Laws}
-use Rattle.tl_run.specs.Plan.{IsOutcome, PrintsPlan, SaysNone}
-use Rattle.tl_run.specs.Promises.{Headline, IsCalmStatus, OutcomeYields, Yields}
+use Rattle.tl_run.specs.Plan.{EndsPastRange, HasCalmSearch, IsOutcome, PrintsPlan, SaysNone}
+use Rattle.tl_run.specs.Promises.{Agrees, Headline, IsOwn}
 use Rattle.tl_run.specs.Turns.{HoldInput}
-use Rattle.tl_run.proofs.Agreement.{Agrees}
+use Rattle.tl_run.proofs.Agreement.{IsDone, from_range, gives_way, same_given, to_range}
 use Rattle.tl_run.proofs.OneOutcome.{IsOneOrYields, one_outcome, calm_outcome, plan_within, plan_shortest, no_plan, no_plan_within}
 use Rattle.tl_run.proofs.OneProblem.{SameProblem}
-use Rattle.tl_run.proofs.SameInputs.{SameInput}
 use Rattle.tl_run.proofs.SameLines.{same_outcome_text}
 
--- what an outcome yields to, the answer with it yields to
-yields_to_outcome : (s : Search) (o u : Outcome) → OutcomeYields o (outcome_status u) → Yields (searched s o) (outcome_status u)
-yields_to_outcome s o (outcome.Plan plan) y = y
-yields_to_outcome s o outcome.NoPlan y = y
-yields_to_outcome s o outcome.NoneWithin y = y
-yields_to_outcome s o outcome.Spent y = y
+pub outcome_done : (o : Outcome) → IsDone (outcome_status o)
+outcome_done (outcome.Plan plan) = tt
+outcome_done outcome.NoPlan = tt
+outcome_done outcome.NoneWithin = tt
+outcome_done outcome.Spent = tt
 
-pub past_range_yields : (after : ℕ) (note : RangeNote) (path : List Action) (u : Outcome) → Yields (past_range after note path) (outcome_status u)
-past_range_yields after note path (outcome.Plan plan) = tt
-past_range_yields after note path outcome.NoPlan = tt
-past_range_yields after note path outcome.NoneWithin = tt
-past_range_yields after note path outcome.Spent = tt
+pub search_done : (fits : Bool) (s : Search) (status : Status) (text : List ℕ) (m : Problem) → Searches fits s status text m → IsDone status
+search_done fits s status text m (inl h) = subst IsDone (sym h.status_is) (outcome_done h.what)
+search_done fits s status text m (inr h) = subst IsDone (sym h.3) tt
 
-outcome_agrees : (m n : Problem) (s t : Search) (o u : Outcome) → SameProblem m n → s ≡ t → IsOneOrYields o u → Agrees (a_problem m) (searched s o) (outcome_status u) (outcome_text n.names n.domain.operators t.within t.nodes u)
-outcome_agrees m n s t o u same e (inl is) =
+-- right outcomes of a search of one problem
+pub outcomes_of_one : Laws → (s : Search) (m n : Problem) (o u : Outcome) → SameProblem m n → IsOutcome s (plain_problem m) o → IsOutcome s (plain_problem n) u → IsOneOrYields o u
+outcomes_of_one laws s m n o u same h k =
+    one_outcome laws s.mode s.within s.nodes (plain_problem m) o u h (subst (λ (x : PlainProblem). IsOutcome s x u) (sym same.meaning) k)
+
+-- an outcome has the same lines for the same problem
+pub same_outcome_lines : (s : Search) (m n : Problem) (o : Outcome) → SameProblem m n → outcome_text n.names n.domain.operators s.within s.nodes o ≡ outcome_text m.names m.domain.operators s.within s.nodes o
+same_outcome_lines s m n o same =
     let names = sym same.names in
-    let back = sym e in
-    inl (ap outcome_status is, (λ i. outcome_text (names i) n.domain.operators (back i).within (back i).nodes (is i)) ∙ same_outcome_text m.names n.domain.operators m.domain.operators s.within s.nodes o (sym same.heads))
-outcome_agrees m n s t o u same e (inr y) = inr (yields_to_outcome s o u y)
+    (λ i. outcome_text (names i) n.domain.operators s.within s.nodes o) ∙ same_outcome_text m.names n.domain.operators m.domain.operators s.within s.nodes o (sym same.heads)
 
-searched_agrees : Laws → (s : Search) (d p : List ℕ) (m : Problem) (t : Search) (o : Outcome) (y : Input) (b : Answer) → SameInput (a_problem m) y → t ≡ s → IsOutcome s (plain_problem m) o → IsRightAnswer (search s d p) y b → Agrees (a_problem m) (searched t o) (status_of b) (text_of y b)
-searched_agrees laws s d p m t o (a_problem n) (searched r u) same e h k =
-    outcome_agrees m n t r o u same (e ∙ sym k.0) (one_outcome laws s.mode s.within s.nodes (plain_problem m) o u h (subst (λ (x : PlainProblem). IsOutcome s x u) (sym same.meaning) k.1))
-searched_agrees laws s d p m t o (a_problem n) (past_range after note path) same e h k = inr tt
-searched_agrees laws s d p m t o y b same e h k = absurd k
+abbrev Right : Bool → Search → Problem → Outcome → Type 0
+Right fits s m o = IsOutcome s (plain_problem m) o × (IsTrue fits → PlanFits o)
 
-past_range_agrees : (s : Search) (d p : List ℕ) (x y : Input) (after : ℕ) (note : RangeNote) (path : List Action) (b : Answer) → IsRightAnswer (search s d p) y b → Agrees x (past_range after note path) (status_of b) (text_of y b)
-past_range_agrees s d p x (a_problem n) after note path (searched r u) k = inr (past_range_yields after note path u)
-past_range_agrees s d p x (a_problem n) after note path (past_range since told route) k = inr tt
-past_range_agrees s d p x y after note path b k = absurd k
+abbrev lines_of : Search → Problem → Outcome → List ℕ
+lines_of s m o = outcome_text m.names m.domain.operators s.within s.nodes o
 
--- of two right answers over the same input each agrees with the other
-pub search_agrees : Laws → (s : Search) (d p : List ℕ) (x y : Input) (a b : Answer) → SameInput x y → IsRightAnswer (search s d p) x a → IsRightAnswer (search s d p) y b → Agrees x a (status_of b) (text_of y b)
-search_agrees laws s d p (a_problem m) y (searched t o) b same h k = searched_agrees laws s d p m t o y b same h.0 h.1 k
-search_agrees laws s d p (a_problem m) y (past_range after note path) b same h k = past_range_agrees s d p (a_problem m) y after note path b k
-search_agrees laws s d p x y a b same h k = absurd h
+-- of two right answers to a search of one problem each agrees with the other
+pub search_agrees : Laws → (c : Command) (s : Search) (status given : Status) (text lines : List ℕ) (m n : Problem) → SameProblem m n → Searches false s status text m → Searches true s given lines n → Agrees c status text given lines
+search_agrees laws c s status given text lines m n same (inl h) (inl k) =
+    elim (outcomes_of_one laws s m n h.what k.what same h.right.0 k.right.0) [
+      | inl is ↦ same_given c (Right false s m) (Right true s n) outcome_status (lines_of s m) (lines_of s n) status given text lines h k is (same_outcome_lines s m n h.what same)
+      | inr way ↦ gives_way c status given (outcome_status h.what) (outcome_status k.what) text lines h.status_is k.status_is way
+    ]
+search_agrees laws c s status given text lines m n same h (inr k) = to_range c status given text lines (search_done false s status text m h) k.3
+search_agrees laws c s status given text lines m n same (inr h) k = from_range c status given text lines h.3 (search_done true s given lines n k)
 
 -- what the lines of an outcome say, whatever the command
 
@@ -84,22 +81,29 @@ says_none s m text right line = inl (line, no_plan s.mode s.within s.nodes (plai
 pub says_none_within : (s : Search) (m : Problem) (text : List ℕ) → IsOutcome s (plain_problem m) outcome.NoneWithin → text ≡ none_within_text s.within → SaysNone s.within text m
 says_none_within s m text right line = inr (line, no_plan_within s.mode s.within s.nodes (plain_problem m) right)
 
-outcome_says : (files : Option Files) (s : Search) (d p : List ℕ) (m : Problem) (o : Outcome) (text : List ℕ) → HoldInput files (search s d p) (a_problem m) → IsOutcome s (plain_problem m) o → text ≡ text_of (a_problem m) (searched s o) → Headline files (search s d p) (outcome_status o) text
+outcome_says : (files : Option Files) (s : Search) (d p : List ℕ) (m : Problem) (o : Outcome) (text : List ℕ) → HoldInput files (search s d p) (a_problem m) → IsOutcome s (plain_problem m) o → text ≡ outcome_text m.names m.domain.operators s.within s.nodes o → Headline files (search s d p) (outcome_status o) text
 outcome_says files s d p m (outcome.Plan plan) text stand right line = (m, stand, prints_plan s m plan text right line)
 outcome_says files s d p m outcome.NoPlan text stand right line = (m, stand, says_none s m text right line)
 outcome_says files s d p m outcome.NoneWithin text stand right line = (m, stand, says_none_within s m text right line)
 outcome_says files s d p m outcome.Spent text stand right line = tt
 
 -- what the headline says of a right answer
-pub search_says : (files : Option Files) (s : Search) (d p : List ℕ) (x : Input) (a : Answer) (text : List ℕ) → HoldInput files (search s d p) x → IsRightAnswer (search s d p) x a → text ≡ text_of x a → Headline files (search s d p) (status_of a) text
-search_says files s d p (a_problem m) (searched t o) text stand right line = outcome_says files s d p m o text stand right.1 (line ∙ ap (λ (r : Search). text_of (a_problem m) (searched r o)) right.0)
-search_says files s d p (a_problem m) (past_range after note path) text stand right line = tt
-search_says files s d p x a text stand right line = absurd right
+pub search_says : (files : Option Files) (s : Search) (d p : List ℕ) (status : Status) (text : List ℕ) (m : Problem) → HoldInput files (search s d p) (a_problem m) → Searches true s status text m → Headline files (search s d p) status text
+search_says files s d p status text m stand (inl h) =
+    subst (λ (x : Status). Headline files (search s d p) x text) (sym h.status_is) (outcome_says files s d p m h.what text stand h.right.0 h.text_is)
+search_says files s d p status text m stand (inr h) = subst (λ (x : Status). Headline files (search s d p) x text) (sym h.3) tt
+
+-- where nothing past range is looked at, no search ends at an operation past range
+pub no_past_range : Laws → (s : Search) (m n : Problem) (status : Status) (text : List ℕ) → SameProblem m n → HasCalmSearch s m → PastRangeAt (EndsPastRange s (plain_problem n)) n status text → ⊥
+no_past_range laws s m n status text same few h =
+    laws.calm (plain_problem m) s.within h.0 (operation_of h.1) few.calm (subst (λ (u : PlainProblem). IsRangeCause u s.within h.0 (operation_of h.1)) (sym same.meaning) h.2.0)
+
+-- and there is room
+pub own_outcome : Laws → (s : Search) (m n : Problem) (o : Outcome) → SameProblem m n → HasCalmSearch s m → IsOutcome s (plain_problem n) o → IsOwn (outcome_status o)
+own_outcome laws s m n o same few right =
+    calm_outcome laws s.mode s.within s.nodes (plain_problem m) o few.few (subst (λ (u : PlainProblem). IsOutcome s u o) (sym same.meaning) right)
 
 -- where nothing past range is looked at, and there are few search nodes, every right answer is a plan or none
-pub search_calm : Laws → (s : Search) (d p : List ℕ) (m : Problem) (x : Input) (a : Answer) → SameInput (a_problem m) x → calm.IsCalm (plain_problem m) s.within → HasFewPairs (plain_problem m) s.within s.nodes → IsRightAnswer (search s d p) x a → IsCalmStatus (status_of a)
-search_calm laws s d p m (a_problem n) (searched t o) same calm few right = calm_outcome laws s.mode s.within s.nodes (plain_problem m) o few (subst (λ (u : PlainProblem). IsOutcome s u o) (sym same.meaning) right.1)
-search_calm laws s d p m (a_problem n) (past_range after note path) same calm few right =
-    let cause = right.0 in
-    absurd (laws.calm (plain_problem m) s.within path (operation_of note) calm (subst (λ (u : PlainProblem). IsRangeCause u s.within path (operation_of note)) (sym same.meaning) cause.0))
-search_calm laws s d p m x a same calm few right = absurd right
+pub search_calm : Laws → (s : Search) (status : Status) (text : List ℕ) (m n : Problem) → SameProblem m n → HasCalmSearch s m → Searches true s status text n → IsOwn status
+search_calm laws s status text m n same few (inl h) = subst IsOwn (sym h.status_is) (own_outcome laws s m n h.what same few h.right.0)
+search_calm laws s status text m n same few (inr h) = absurd (no_past_range laws s m n status text same few h)

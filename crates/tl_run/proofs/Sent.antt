@@ -1,20 +1,16 @@
 -- What a run has written at its end.
-use Rattle.std.proofs.Common.{◌≡◌, ◌⊎◌, inl, inr, ℕ, List, false, refl, sym, ap, ◌∙◌, subst}
+use Rattle.std.proofs.Common.{◌≡◌, ◌⊎◌, inl, inr, ℕ, List, false, refl, sym, ◌∙◌, subst}
 use Rattle.std.specs.Prelude.{Option, Some, None}
-use Rattle.std.specs.Io.KnownBytes.{append_known}
 use Rattle.tl_outside.specs.Causes.{Rose}
 use Rattle.tl_outside.specs.Told.{Files}
 use Rattle.tl_run.specs.declared.status.Status.{Status}
 use Rattle.tl_run.specs.declared.status.Status.TheVariants.{Yes, No, Spent, Refused, Range, ReadFault, WriteFault, NoMemory, Usage}
-use Rattle.tl_run.specs.Answers.{Answer, refusal, past_range, judged, searched, traced, explained, certified, unproved, judged_proof, sampled, costed, judged_loop}
 use Rattle.tl_run.specs.Commands.{Command}
-use Rattle.tl_run.specs.Inputs.{Input}
-use Rattle.tl_run.specs.Promises.{Gives, IsCalmStatus, Writes, Yields}
+use Rattle.tl_run.specs.Promises.{Writes}
 use Rattle.tl_run.specs.Replies.{HasLines, Sends}
 use Rattle.tl_run.specs.Sent.{SendsAll, SinkTold}
 use Rattle.tl_run.specs.Stops.{IsBareStatus, is_read_fault}
 use Rattle.tl_run.specs.Turns.{LacksFile}
-use Rattle.tl_run.proofs.Agreement.{Agrees}
 
 writes_all : (P : Status → List ℕ → Type 0) (old new : SinkTold) (status : Status) (text : List ℕ) → HasLines status → P status text → SendsAll old new text → Writes P old new status
 writes_all P old new Yes text lines p e = (text, p, e)
@@ -34,44 +30,6 @@ pub bare_writes : (P : Status → List ℕ → Type 0) (files : Option Files) (c
 bare_writes P files c before now old new ReadFault bare e = e
 bare_writes P files c before now old new NoMemory bare e = e
 bare_writes P files c before now old new status bare e = absurd bare
-
--- a right answer yields where reading or writing fails or memory is wanting
-yields_outside : (a : Answer) → Yields a ReadFault × Yields a WriteFault × Yields a NoMemory
-yields_outside (refusal number m) = (tt, tt, tt)
-yields_outside (past_range after note path) = (tt, tt, tt)
-yields_outside (judged v) = (tt, tt, tt)
-yields_outside (searched s o) = (tt, tt, tt)
-yields_outside (traced s kept events o) = (tt, tt, tt)
-yields_outside explained = (tt, tt, tt)
-yields_outside (certified s proof) = (tt, tt, tt)
-yields_outside (unproved s o) = (tt, tt, tt)
-yields_outside (judged_proof v) = (tt, tt, tt)
-yields_outside (sampled n kept o v) = (tt, tt, tt)
-yields_outside (costed b o) = (tt, tt, tt)
-yields_outside (judged_loop v) = (tt, tt, tt)
-
-agrees_gives : (old new : Option (List ℕ)) (x : Input) (a : Answer) (status : Status) (text : List ℕ) → Agrees x a status text → new ≡ append_known old text → Gives old new x a status
-agrees_gives old new x a status text (inl agrees) e = inl (agrees.0, (text, agrees.1, e))
-agrees_gives old new x a status text (inr yields) e = inr yields
-
--- what is sent is the right answer, or it yields
-pub sent_gives : (old new : SinkTold) (x : Input) (a : Answer) (status result : Status) (text : List ℕ) → Agrees x a status text → Sends old new status text result → Gives old.bytes new.bytes x a result
-sent_gives old new x a status result text agrees (inl s) = subst (λ (r : Status). Gives old.bytes new.bytes x a r) (sym s.0) (agrees_gives old.bytes new.bytes x a status text agrees s.1.0)
-sent_gives old new x a status result text agrees (inr s) = subst (λ (r : Status). Gives old.bytes new.bytes x a r) (sym s.0) (inr (yields_outside a).1)
-
-pub bare_gives : (files : Option Files) (c : Command) (before now : ℕ) (old new : Option (List ℕ)) (x : Input) (a : Answer) (status : Status) → IsBareStatus files c before now status → Gives old new x a status
-bare_gives files c before now old new x a ReadFault bare = inr (yields_outside a).0
-bare_gives files c before now old new x a NoMemory bare = inr (yields_outside a).2
-bare_gives files c before now old new x a status bare = absurd bare
-
-pub sent_calm : (old new : SinkTold) (status result : Status) (text : List ℕ) → IsCalmStatus status → Sends old new status text result → IsCalmStatus result
-sent_calm old new status result text calm (inl s) = subst IsCalmStatus (sym s.0) calm
-sent_calm old new status result text calm (inr s) = subst IsCalmStatus (sym s.0) tt
-
-pub bare_calm : (files : Option Files) (c : Command) (before now : ℕ) (status : Status) → IsBareStatus files c before now status → IsCalmStatus status
-bare_calm files c before now ReadFault bare = tt
-bare_calm files c before now NoMemory bare = tt
-bare_calm files c before now status bare = absurd bare
 
 -- the statuses with which sending ends
 abbrev IsSent : Status → Type 0

@@ -1,24 +1,18 @@
 -- Laws of the right answers of `trace`.
-use Rattle.std.proofs.Common.{◌≡◌, inl, inr, ℕ, zero, suc, List, [], ◌∷◌, ◌++◌, slice_get, Some, true, refl, sym, ap, ◌∙◌, subst}
+use Rattle.std.proofs.Common.{◌≡◌, inl, inr, ℕ, zero, suc, List, [], ◌∷◌, ◌++◌, slice_get, Some, true, false, refl, sym, ap, ◌∙◌, subst}
 use Rattle.std.proofs.lemmas.List.{length-map}
-use Rattle.std.specs.Prelude.{Option}
+use Rattle.std.specs.Prelude.{Bool, Option}
 use Rattle.tl_breadth.specs.Events.{AreFirstArrivals, arrivals_of}
 use Rattle.tl_breadth.specs.Outcomes.{IsBreadthFirstOutcome}
 use Rattle.tl_breadth.specs.Traces.{AreInBreadth, StopsAt}
 use Rattle.tl_depth.specs.Outcomes.{IsDepthFirstOutcome, IsToldOutcome}
 use Rattle.tl_depth.specs.Traces as depth
-use Rattle.tl_eval.specs.Notes.{operation_of}
-use Rattle.tl_eval.specs.declared.range.RangeNote.{RangeNote}
 use Rattle.tl_outside.specs.Told.{Files}
 use Rattle.tl_search.specs.KeptPairs.{KeptPair, pairs_of}
-use Rattle.tl_search.specs.RangeCauses.{IsRangeCause}
-use Rattle.tl_search.specs.Spent.{HasFewPairs}
 use Rattle.tl_search.specs.declared.event.Event.{Event}
 use Rattle.tl_search.specs.declared.outcome.Outcome.{Outcome}
 use Rattle.tl_search.specs.declared.outcome.Outcome.TheVariants as outcome
-use Rattle.tl_syntax.specs.declared.action.Action.{Action}
 use Rattle.tl_syntax.specs.declared.problem.Problem.{Problem}
-use Rattle.tl_terms.specs.Calm as calm
 use Rattle.tl_terms.specs.Pairs.{Pair}
 use Rattle.tl_terms.specs.Problem.{PlainProblem}
 use Rattle.tl_terms.specs.ProblemMeaning.{plain_problem}
@@ -27,21 +21,20 @@ use Rattle.tl_text.specs.Traces.{trace_text}
 use Rattle.tl_run.specs.declared.search.Mode.{Mode}
 use Rattle.tl_run.specs.declared.search.Mode.TheVariants.{Breadth, Depth}
 use Rattle.tl_run.specs.declared.search.Search.{Search}
-use Rattle.tl_run.specs.Answers.{Answer, past_range, traced, IsRightAnswer, outcome_status, status_of, text_of}
-use Rattle.tl_run.specs.Commands.{trace}
-use Rattle.tl_run.specs.Inputs.{Input, a_problem}
+use Rattle.tl_run.specs.declared.status.Status.{Status}
+use Rattle.tl_run.specs.Answers.{Traces, outcome_status}
+use Rattle.tl_run.specs.Commands.{Command, trace}
+use Rattle.tl_run.specs.Inputs.{a_problem}
 use Rattle.tl_run.specs.Laws.{Laws}
-use Rattle.tl_run.specs.Plan.{IsOutcome, IsOutcomeIn, PrintsPlan, SaysNone}
-use Rattle.tl_run.specs.Promises.{Headline, IsCalmStatus, OutcomeYields, Yields}
+use Rattle.tl_run.specs.Plan.{HasCalmSearch, IsOutcome, IsOutcomeIn, PrintsPlan, SaysNone}
+use Rattle.tl_run.specs.Promises.{Agrees, Headline, IsOwn}
 use Rattle.tl_run.specs.Trace.{EndsWithLast, IsSearchIn, IsTrace, TellsActionsIn, TellsEvents, TellsInTurn}
 use Rattle.tl_run.specs.Turns.{HoldInput}
-use Rattle.tl_run.proofs.Agreement.{Agrees}
-use Rattle.tl_run.proofs.OneOutcome.{IsOneOrYields, one_outcome, calm_outcome}
+use Rattle.tl_run.proofs.Agreement.{IsDone, from_range, gives_way, to_range}
 use Rattle.tl_run.proofs.OneProblem.{SameProblem}
-use Rattle.tl_run.proofs.SameInputs.{SameInput}
 use Rattle.tl_run.proofs.SameLabels.{same_trace}
 use Rattle.tl_run.proofs.SameLines.{same_outcome_text}
-use Rattle.tl_run.proofs.SearchLaws.{past_range_yields, prints_plan, says_none, says_none_within}
+use Rattle.tl_run.proofs.SearchLaws.{no_past_range, outcome_done, outcomes_of_one, own_outcome, prints_plan, says_none, says_none_within}
 
 breadth_outcome : (n b : ℕ) (p : PlainProblem) (kept : List KeptPair) (o : Outcome) → IsBreadthFirstOutcome p n b kept o → IsOutcomeIn Breadth n b p o
 breadth_outcome n b p kept (outcome.Plan plan) h = h.0
@@ -63,19 +56,16 @@ ended_outcome Depth n b p kept o h = depth_outcome n b p kept o h
 pub trace_outcome : (s : Search) (p : PlainProblem) (kept : List KeptPair) (events : List Event) (o : Outcome) → IsTrace s p kept events o → IsOutcome s p o
 trace_outcome s p kept events o h = ended_outcome s.mode s.within s.nodes p kept o h.ended
 
--- the lines of events and of an outcome are the same for the same problem
-same_lines : (m n : Problem) (s : Search) (kept : List KeptPair) (events : List Event) (o : Outcome) → SameProblem m n → text_of (a_problem n) (traced s kept events o) ≡ text_of (a_problem m) (traced s kept events o)
+-- the lines of events and of an outcome
+abbrev lines_of : Search → Problem → List KeptPair → List Event → Outcome → List ℕ
+lines_of s m kept events o = trace_text m.names m.domain kept events ++ outcome_text m.names m.domain.operators s.within s.nodes o
+
+-- they are the same for the same problem
+same_lines : (m n : Problem) (s : Search) (kept : List KeptPair) (events : List Event) (o : Outcome) → SameProblem m n → lines_of s n kept events o ≡ lines_of s m kept events o
 same_lines m n s kept events o same =
     let names = sym same.names in
     (λ i. trace_text (names i) n.domain kept events ++ outcome_text (names i) n.domain.operators s.within s.nodes o)
     ∙ (λ i. sym (same_trace m.names m.domain n.domain same.words kept events) i ++ same_outcome_text m.names n.domain.operators m.domain.operators s.within s.nodes o (sym same.heads) i)
-
--- what an outcome yields to, a trace with it yields to
-yields_to_outcome : (s : Search) (kept : List KeptPair) (events : List Event) (o u : Outcome) → OutcomeYields o (outcome_status u) → Yields (traced s kept events o) (outcome_status u)
-yields_to_outcome s kept events o (outcome.Plan plan) y = y
-yields_to_outcome s kept events o outcome.NoPlan y = y
-yields_to_outcome s kept events o outcome.NoneWithin y = y
-yields_to_outcome s kept events o outcome.Spent y = y
 
 -- a pair that is kept at a number, with its path
 kept_at : (kept : List KeptPair) (k : ℕ) (x : Pair) → slice_get (pairs_of kept) k ≡ Some x → (y : KeptPair) × (slice_get kept k ≡ Some y) × (x ≡ y.node)
@@ -126,41 +116,32 @@ one_trace : Laws → (mode : Mode) (p : PlainProblem) (s : Search) (kept others 
 one_trace laws Breadth p s kept others events told o mode h k = laws.traces p s.within s.nodes kept others events told o (in_breadth s p kept events o mode h) (in_breadth s p others told o mode k)
 one_trace laws Depth p s kept others events told o mode h k = laws.deep_traces p s.within s.nodes kept others events told o (in_depth s p kept events o mode h) (in_depth s p others told o mode k)
 
--- the lines of a right trace are those of every other
-lines_are : Laws → (m : Problem) (s : Search) (kept others : List KeptPair) (events told : List Event) (o : Outcome) (text : List ℕ) → IsTrace s (plain_problem m) kept events o → IsTrace s (plain_problem m) others told o → text ≡ text_of (a_problem m) (traced s others told o) → text ≡ text_of (a_problem m) (traced s kept events o)
-lines_are laws m s kept others events told o text h k line =
-    let one = one_trace laws s.mode (plain_problem m) s kept others events told o refl h k in
-    line ∙ (λ i. text_of (a_problem m) (traced s (sym one.1 i) (sym one.0 i) o))
+pub trace_done : (fits : Bool) (s : Search) (status : Status) (text : List ℕ) (m : Problem) → Traces fits s status text m → IsDone status
+trace_done fits s status text m (inl h) = subst IsDone (sym h.status_is) (outcome_done h.ended)
+trace_done fits s status text m (inr h) = subst IsDone (sym h.3) tt
 
-traced_agrees : Laws → (m n : Problem) (s t r : Search) (kept others : List KeptPair) (events told : List Event) (o u : Outcome) → SameProblem m n → t ≡ s → r ≡ s → IsTrace s (plain_problem m) kept events o → IsTrace s (plain_problem n) others told u → IsOneOrYields o u → Agrees (a_problem m) (traced t kept events o) (outcome_status u) (text_of (a_problem n) (traced r others told u))
-traced_agrees laws m n s t r kept others events told o u same e f first right (inl is) = inl (
-  ap outcome_status is,
-  lines_are laws m t kept others events told o (text_of (a_problem n) (traced r others told u)) (subst (λ (x : Search). IsTrace x (plain_problem m) kept events o) (sym e) first)
-      (subst (λ (x : Search). IsTrace x (plain_problem m) others told o) (sym e) (subst (λ (x : Outcome). IsTrace s (plain_problem m) others told x) is (subst (λ (x : PlainProblem). IsTrace s x others told u) (sym same.meaning) right)))
-      ((λ i. text_of (a_problem n) (traced ((f ∙ sym e) i) others told (is i))) ∙ same_lines m n t others told o same),
-)
-traced_agrees laws m n s t r kept others events told o u same e f first right (inr y) = inr (yields_to_outcome t kept events o u y)
+-- the lines of a right trace are those of every other with its outcome
+one_text : Laws → (s : Search) (m n : Problem) (kept others : List KeptPair) (events told : List Event) (o u : Outcome) → SameProblem m n → u ≡ o → IsTrace s (plain_problem m) kept events o → IsTrace s (plain_problem n) others told u → lines_of s n others told u ≡ lines_of s m kept events o
+one_text laws s m n kept others events told o u same is h k =
+    let there : IsTrace s (plain_problem m) others told o = subst (λ (x : Outcome). IsTrace s (plain_problem m) others told x) is (subst (λ (x : PlainProblem). IsTrace s x others told u) (sym same.meaning) k) in
+    let one = one_trace laws s.mode (plain_problem m) s kept others events told o refl h there in
+    ap (lines_of s n others told) is ∙ same_lines m n s others told o same ∙ (λ i. lines_of s m (sym one.1 i) (sym one.0 i) o)
 
-right_agrees : Laws → (s : Search) (d p : List ℕ) (m : Problem) (t : Search) (kept : List KeptPair) (events : List Event) (o : Outcome) (y : Input) (b : Answer) → SameInput (a_problem m) y → t ≡ s → IsTrace s (plain_problem m) kept events o → IsRightAnswer (trace s d p) y b → Agrees (a_problem m) (traced t kept events o) (status_of b) (text_of y b)
-right_agrees laws s d p m t kept events o (a_problem n) (traced r others told u) same e h k =
-    let one = one_outcome laws s.mode s.within s.nodes (plain_problem m) o u (trace_outcome s (plain_problem m) kept events o h) (subst (λ (x : PlainProblem). IsOutcome s x u) (sym same.meaning) (trace_outcome s (plain_problem n) others told u k.1)) in
-    traced_agrees laws m n s t r kept others events told o u same e k.0 h k.1 one
-right_agrees laws s d p m t kept events o (a_problem n) (past_range after note path) same e h k = inr tt
-right_agrees laws s d p m t kept events o y b same e h k = absurd k
-
-past_range_agrees : (s : Search) (d p : List ℕ) (x y : Input) (after : ℕ) (note : RangeNote) (path : List Action) (b : Answer) → IsRightAnswer (trace s d p) y b → Agrees x (past_range after note path) (status_of b) (text_of y b)
-past_range_agrees s d p x (a_problem n) after note path (traced r others told u) k = inr (past_range_yields after note path u)
-past_range_agrees s d p x (a_problem n) after note path (past_range since told route) k = inr tt
-past_range_agrees s d p x y after note path b k = absurd k
-
--- of two right answers over the same input each agrees with the other
-pub trace_agrees : Laws → (s : Search) (d p : List ℕ) (x y : Input) (a b : Answer) → SameInput x y → IsRightAnswer (trace s d p) x a → IsRightAnswer (trace s d p) y b → Agrees x a (status_of b) (text_of y b)
-trace_agrees laws s d p (a_problem m) y (traced t kept events o) b same h k = right_agrees laws s d p m t kept events o y b same h.0 h.1 k
-trace_agrees laws s d p (a_problem m) y (past_range after note path) b same h k = past_range_agrees s d p (a_problem m) y after note path b k
-trace_agrees laws s d p x y a b same h k = absurd h
+-- of two right answers each agrees with the other
+pub trace_agrees : Laws → (c : Command) (s : Search) (status given : Status) (text lines : List ℕ) (m n : Problem) → SameProblem m n → Traces false s status text m → Traces true s given lines n → Agrees c status text given lines
+trace_agrees laws c s status given text lines m n same (inl h) (inl k) =
+    elim (outcomes_of_one laws s m n h.ended k.ended same (trace_outcome s (plain_problem m) h.kept h.events h.ended h.right) (trace_outcome s (plain_problem n) k.kept k.events k.ended k.right)) [
+      | inl is ↦ inl (
+        k.status_is ∙ ap outcome_status is ∙ sym h.status_is,
+        inl (k.text_is ∙ one_text laws s m n h.kept k.kept h.events k.events h.ended k.ended same is h.right k.right ∙ sym h.text_is),
+      )
+      | inr way ↦ gives_way c status given (outcome_status h.ended) (outcome_status k.ended) text lines h.status_is k.status_is way
+    ]
+trace_agrees laws c s status given text lines m n same h (inr k) = to_range c status given text lines (trace_done false s status text m h) k.3
+trace_agrees laws c s status given text lines m n same (inr h) k = from_range c status given text lines h.3 (trace_done true s given lines n k)
 
 -- what is told of the events, whatever is said of the lines after them
-tells_events : (s : Search) (m : Problem) (kept : List KeptPair) (events : List Event) (o : Outcome) (P : List ℕ → Problem → Type 0) (text : List ℕ) → IsTrace s (plain_problem m) kept events o → text ≡ text_of (a_problem m) (traced s kept events o) → P (outcome_text m.names m.domain.operators s.within s.nodes o) m → TellsEvents P text m
+tells_events : (s : Search) (m : Problem) (kept : List KeptPair) (events : List Event) (o : Outcome) (P : List ℕ → Problem → Type 0) (text : List ℕ) → IsTrace s (plain_problem m) kept events o → text ≡ lines_of s m kept events o → P (outcome_text m.names m.domain.operators s.within s.nodes o) m → TellsEvents P text m
 tells_events s m kept events o P text right line says = record {
   kept = kept;
   events = events;
@@ -171,26 +152,27 @@ tells_events s m kept events o P text right line says = record {
   says = says;
 }
 
-outcome_says : (files : Option Files) (s : Search) (d p : List ℕ) (m : Problem) (kept : List KeptPair) (events : List Event) (o : Outcome) (text : List ℕ) → HoldInput files (trace s d p) (a_problem m) → IsTrace s (plain_problem m) kept events o → text ≡ text_of (a_problem m) (traced s kept events o) → Headline files (trace s d p) (outcome_status o) text
+outcome_says : (files : Option Files) (s : Search) (d p : List ℕ) (m : Problem) (kept : List KeptPair) (events : List Event) (o : Outcome) (text : List ℕ) → HoldInput files (trace s d p) (a_problem m) → IsTrace s (plain_problem m) kept events o → text ≡ lines_of s m kept events o → Headline files (trace s d p) (outcome_status o) text
 outcome_says files s d p m kept events (outcome.Plan plan) text stand right line =
-    (m, stand, tells_events s m kept events (outcome.Plan plan) (PrintsPlan s) text right line (prints_plan s m plan _ (trace_outcome s (plain_problem m) kept events (outcome.Plan plan) right) refl))
+    let said = prints_plan s m plan _ (trace_outcome s (plain_problem m) kept events (outcome.Plan plan) right) refl in
+    (m, stand, tells_events s m kept events (outcome.Plan plan) (PrintsPlan s) text right line said)
 outcome_says files s d p m kept events outcome.NoPlan text stand right line =
-    (m, stand, tells_events s m kept events outcome.NoPlan (SaysNone s.within) text right line (says_none s m _ (trace_outcome s (plain_problem m) kept events outcome.NoPlan right) refl))
+    let said = says_none s m _ (trace_outcome s (plain_problem m) kept events outcome.NoPlan right) refl in
+    (m, stand, tells_events s m kept events outcome.NoPlan (SaysNone s.within) text right line said)
 outcome_says files s d p m kept events outcome.NoneWithin text stand right line =
-    (m, stand, tells_events s m kept events outcome.NoneWithin (SaysNone s.within) text right line (says_none_within s m _ (trace_outcome s (plain_problem m) kept events outcome.NoneWithin right) refl))
+    let said = says_none_within s m _ (trace_outcome s (plain_problem m) kept events outcome.NoneWithin right) refl in
+    (m, stand, tells_events s m kept events outcome.NoneWithin (SaysNone s.within) text right line said)
 outcome_says files s d p m kept events outcome.Spent text stand right line =
     (m, stand, tells_events s m kept events outcome.Spent (λ rest problem. rest ≡ spent_text s.nodes) text right line refl)
 
 -- what the headline says of a right answer
-pub trace_says : (files : Option Files) (s : Search) (d p : List ℕ) (x : Input) (a : Answer) (text : List ℕ) → HoldInput files (trace s d p) x → IsRightAnswer (trace s d p) x a → text ≡ text_of x a → Headline files (trace s d p) (status_of a) text
-trace_says files s d p (a_problem m) (traced t kept events o) text stand right line = outcome_says files s d p m kept events o text stand right.1 (line ∙ ap (λ (r : Search). text_of (a_problem m) (traced r kept events o)) right.0)
-trace_says files s d p (a_problem m) (past_range after note path) text stand right line = tt
-trace_says files s d p x a text stand right line = absurd right
+pub trace_says : (files : Option Files) (s : Search) (d p : List ℕ) (status : Status) (text : List ℕ) (m : Problem) → HoldInput files (trace s d p) (a_problem m) → Traces true s status text m → Headline files (trace s d p) status text
+trace_says files s d p status text m stand (inl h) =
+    subst (λ (x : Status). Headline files (trace s d p) x text) (sym h.status_is) (outcome_says files s d p m h.kept h.events h.ended text stand h.right h.text_is)
+trace_says files s d p status text m stand (inr h) = subst (λ (x : Status). Headline files (trace s d p) x text) (sym h.3) tt
 
 -- where nothing past range is looked at, and there are few search nodes, every right answer is a plan or none
-pub trace_calm : Laws → (s : Search) (d p : List ℕ) (m : Problem) (x : Input) (a : Answer) → SameInput (a_problem m) x → calm.IsCalm (plain_problem m) s.within → HasFewPairs (plain_problem m) s.within s.nodes → IsRightAnswer (trace s d p) x a → IsCalmStatus (status_of a)
-trace_calm laws s d p m (a_problem n) (traced t kept events o) same calm few right = calm_outcome laws s.mode s.within s.nodes (plain_problem m) o few (subst (λ (u : PlainProblem). IsOutcome s u o) (sym same.meaning) (trace_outcome s (plain_problem n) kept events o right.1))
-trace_calm laws s d p m (a_problem n) (past_range after note path) same calm few right =
-    let cause = right.0 in
-    absurd (laws.calm (plain_problem m) s.within path (operation_of note) calm (subst (λ (u : PlainProblem). IsRangeCause u s.within path (operation_of note)) (sym same.meaning) cause.0))
-trace_calm laws s d p m x a same calm few right = absurd right
+pub trace_calm : Laws → (s : Search) (status : Status) (text : List ℕ) (m n : Problem) → SameProblem m n → HasCalmSearch s m → Traces true s status text n → IsOwn status
+trace_calm laws s status text m n same few (inl h) =
+    subst IsOwn (sym h.status_is) (own_outcome laws s m n h.ended same few (trace_outcome s (plain_problem n) h.kept h.events h.ended h.right))
+trace_calm laws s status text m n same few (inr h) = absurd (no_past_range laws s m n status text same few h)

@@ -1,6 +1,6 @@
 -- What the command `cheapest` promises: the outcomes that are right of its search, the operations
 -- at which it ends, and what its lines say.
-use Rattle.std.specs.Prelude.{◌≡◌, ℕ, ◌+◌, List, length, ⊤}
+use Rattle.std.specs.Prelude.{◌≡◌, ℕ, ◌+◌, List, length}
 use Rattle.tl_cost.specs.CostTexts.{cheapest_plan_text}
 use Rattle.tl_cost.specs.LeastCosts.{AreNearPairs, IsCheapestCause, IsCheapestPlan}
 use Rattle.tl_cost.specs.declared.outcome.CostOutcome.{CostOutcome}
@@ -15,7 +15,6 @@ use Rattle.tl_terms.specs.Problem.{PlainProblem}
 use Rattle.tl_terms.specs.ProblemMeaning.{plain_problem}
 use Rattle.tl_run.specs.declared.status.Status.{Status}
 use Rattle.tl_run.specs.declared.status.Status.TheVariants.{Yes, No, Spent}
-use Rattle.tl_run.specs.Inputs.{Input, some_costs}
 
 -- so many different search nodes, each of them near: the first one, or one action after a search
 -- node that costs no more than any accepted plan
@@ -29,19 +28,6 @@ abbrev pub IsCostOutcome : ℕ → PlainProblem → List ℕ → CostOutcome →
 IsCostOutcome b p costs (outcome.Plan plan cost) = IsCheapestPlan p costs plan cost
 IsCostOutcome b p costs outcome.NoPlan = HasNoPlan p
 IsCostOutcome b p costs outcome.Spent = (nodes : List Pair) × AreTooManyNear p costs b nodes
-
--- it is right of it over the problem and the costs that the files stand for
-abbrev pub IsCostOutcomeOver : Input → ℕ → CostOutcome → Type 0
-IsCostOutcomeOver (some_costs problem costs) b o = IsCostOutcome b (plain_problem problem) costs o
-IsCostOutcomeOver input b o = ⊥
-
--- both are plans of the same cost with the same number of actions, or both say that there is none,
--- or both are spent
-abbrev pub AreAlike : CostOutcome → CostOutcome → Type 0
-AreAlike (outcome.Plan plan cost) (outcome.Plan other price) = (price ≡ cost) × (length other ≡ length plan)
-AreAlike outcome.NoPlan outcome.NoPlan = ⊤
-AreAlike outcome.Spent outcome.Spent = ⊤
-AreAlike o ended = ⊥
 
 -- the path executes and has at most b actions; it is empty, or without its last action it is open
 -- and costs no more than any accepted plan; and in its last state the operation is looked at and is

@@ -7,7 +7,6 @@ pub mod SampleTexts
 pub mod Turns
 pub mod Refusals
 pub mod Statuses
-pub mod Answers
 pub mod Plan
 pub mod Trace
 pub mod ProveNone
@@ -15,6 +14,7 @@ pub mod CheckNone
 pub mod Sample
 pub mod Cheapest
 pub mod CheckLoop
+pub mod Answers
 pub mod Searched
 pub mod Sent
 pub mod Promises

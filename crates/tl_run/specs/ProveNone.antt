@@ -13,7 +13,6 @@ use Rattle.tl_terms.specs.ProblemMeaning.{plain_problem}
 use Rattle.tl_run.specs.declared.search.Search.{Search}
 use Rattle.tl_run.specs.declared.status.Status.{Status}
 use Rattle.tl_run.specs.declared.status.Status.TheVariants.{No, Spent}
-use Rattle.tl_run.specs.Inputs.{Input, a_problem}
 use Rattle.tl_run.specs.Plan.{IsOutcome}
 
 -- the bound of a proof after this outcome: none where there is no plan of any length, and the
@@ -34,11 +33,6 @@ pub record IsCertificate (s : Search) (p : PlainProblem) (proof : Proof) : Type 
   pub covers : Covers p proof
   pub order : StartBefore 0 proof.links
   pub few : length proof.links ≤ 100000
-
--- it is so over the problem that the files stand for
-abbrev pub IsCertificateOver : Input → Search → Proof → Type 0
-IsCertificateOver (a_problem problem) s proof = IsCertificate s (plain_problem problem) proof
-IsCertificateOver input s proof = ⊥
 
 -- the outcome leaves no proof: there is a plan, or the search was spent
 abbrev pub LeavesNoProof : Outcome → Type 0

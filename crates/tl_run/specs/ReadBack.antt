@@ -1,8 +1,9 @@
 -- What is printed and then read again, as the third file of another command.
 use Rattle.std.specs.Prelude.{◌≡◌, ◌⊎◌, ◌≤◌, ℕ, List, length, Option, Some}
 use Rattle.tl_cert.specs.ProofTexts.{proof_text}
-use Rattle.tl_cert.specs.declared.proof.Proof.{Proof}
+use Rattle.tl_cert.specs.Verdicts.{IsNoneVerdict}
 use Rattle.tl_cert.specs.declared.verdict.NoneVerdict.TheVariants.{Proved}
+use Rattle.tl_check.specs.Verdicts.{IsVerdict}
 use Rattle.tl_check.specs.declared.verdict.Verdict.TheVariants.{Valid}
 use Rattle.tl_domain.specs.Files.{AreFilesOf}
 use Rattle.tl_line.specs.WritableActions.{ArgumentsFit}
@@ -19,11 +20,9 @@ use Rattle.tl_text.specs.LawsReadBack as plan
 use Rattle.tl_text.specs.Outcomes.{plan_text}
 use Rattle.tl_run.specs.declared.search.Search.{Search}
 use Rattle.tl_run.specs.declared.status.Status.TheVariants.{Yes, No}
-use Rattle.tl_run.specs.Answers.{judged, judged_proof}
-use Rattle.tl_run.specs.Commands.{check, check_none, prove_none, search}
-use Rattle.tl_run.specs.Inputs.{a_plan, a_proof}
-use Rattle.tl_run.specs.Promises.{Allows, IsAnswer}
-use Rattle.tl_run.specs.Turns.{CallsTold}
+use Rattle.tl_run.specs.Commands.{prove_none, search}
+use Rattle.tl_run.specs.Promises.{IsAnswer}
+use Rattle.tl_run.specs.Turns.{CallsTold, OverPlan, OverProof}
 
 -- the bytes of two files spell forms that stand for the problem
 pub record AreBytesOf (domain problem : List ℕ) (p : Problem) : Type 0 where
@@ -41,13 +40,11 @@ ExecutedPlansAreReadBack =
     AreBytesOf domain problem p → states (plain_problem p) actions ≡ Some ws → Each ArgumentsFit actions → length actions ≤ 100000 →
     plan.AreReadAsPlan p.names p.domain.operators (plan_text p.names p.domain.operators actions) actions
 
--- the text is that of a plan, and with the third file the files stand for it and allow `check` to
--- answer that it is valid
-pub record IsValidFile (files : Option Files) (d p q text : List ℕ) : Type 0 where
-  pub problem : Problem
-  pub actions : List Action
-  pub lines : text ≡ plan_text problem.names problem.domain.operators actions
-  pub valid : Allows files (check d p q) (a_plan problem actions) (judged Valid)
+-- the text is that of a plan, and with the third file the files stand for it, and the right verdict
+-- on it is that it is valid
+abbrev pub IsValidFile : Option Files → List ℕ → List ℕ → List ℕ → List ℕ → Type 0
+IsValidFile files d p q text =
+    OverPlan files d p q (λ m actions. (text ≡ plan_text m.names m.domain.operators actions) × IsVerdict (plain_problem m) actions Valid)
 
 -- where `plan` printed a plan, or `prove-none` one in place of a proof, and its lines are at most
 -- 4194304 bytes and those of a third file, it is so
@@ -57,13 +54,11 @@ PrintedPlansAreValid =
     IsAnswer files (search s d p) told Yes text ⊎ IsAnswer files (prove_none s d p) told No text → s.within ≤ 100000 → length text ≤ 4194304 → IsContent files q text →
     IsValidFile files d p q text
 
--- the text is that of a proof, and with the third file the files stand for it and allow
--- `check-none` to answer that there is no plan
-pub record IsProofFile (files : Option Files) (d p q text : List ℕ) : Type 0 where
-  pub problem : Problem
-  pub proof : Proof
-  pub lines : text ≡ proof_text problem.names problem.domain.operators proof
-  pub proved : Allows files (check_none d p q) (a_proof problem proof) (judged_proof Proved)
+-- the text is that of a proof, and with the third file the files stand for it, and the right
+-- verdict on it is that there is no plan
+abbrev pub IsProofFile : Option Files → List ℕ → List ℕ → List ℕ → List ℕ → Type 0
+IsProofFile files d p q text =
+    OverProof files d p q (λ m proof. (text ≡ proof_text m.names m.domain.operators proof) × IsNoneVerdict (plain_problem m) proof Proved)
 
 -- where a proof was printed, and its lines are at most 4194304 bytes and those of a third file, it
 -- is so

@@ -1,6 +1,6 @@
 -- What the command `sample` promises: what is right of the search of a sample and of the check of
 -- its plan, and what its lines say.
-use Rattle.std.specs.Prelude.{◌≡◌, ◌⊎◌, ℕ, ◌*◌, List, [], ◌++◌, length, Option, Some, None, codes, ⊤}
+use Rattle.std.specs.Prelude.{◌≡◌, ℕ, ◌*◌, List, [], ◌++◌, length, Option, Some, None, codes, ⊤}
 use Rattle.std.specs.Fmt.{decimal}
 use Rattle.tl_syntax.specs.Lists.{Among}
 use Rattle.tl_syntax.specs.declared.action.Action.{Action}
@@ -21,8 +21,7 @@ use Rattle.tl_text.specs.Outcomes.{plan_line, none_text, none_within_text, spent
 use Rattle.tl_text.specs.Verdicts.{verdict_text}
 use Rattle.tl_run.specs.declared.search.Mode.TheVariants.{Depth}
 use Rattle.tl_run.specs.declared.search.Search.{Search}
-use Rattle.tl_run.specs.Inputs.{Input, a_problem}
-use Rattle.tl_run.specs.Plan.{IsOutcome, EndsPastRange}
+use Rattle.tl_run.specs.Plan.{IsOutcome}
 
 -- the search of the sample of so many balls: depth-first, for plans of at most three actions for
 -- each ball, among at most 20,000 search nodes
@@ -56,22 +55,11 @@ pub record IsSummary (balls : ℕ) (p : PlainProblem) (kept : ℕ) (o : Outcome)
   pub keeps : KeepsNodes p (3 * balls) o kept
   pub judged : IsJudged p o v
 
--- they are right of it over the problem that its texts stand for
-abbrev pub IsSummaryOver : Input → ℕ → ℕ → Outcome → Option Verdict → Type 0
-IsSummaryOver (a_problem problem) balls kept o v = IsSummary balls (plain_problem problem) kept o v
-IsSummaryOver input balls kept o v = ⊥
-
 -- the check of the plan that the search gives ends at an operation past range
 pub record CheckEndsPastRange (balls : ℕ) (p : PlainProblem) (after : ℕ) (note : RangeNote) : Type 0 where
   pub plan : List Action
   pub found : IsOutcome (sample_search balls) p (outcome.Plan plan)
   pub cause : IsCause p plan (fault.Range after note)
-
--- the search ends at an operation past range, after the actions of the path; or the check of its
--- plan does, and no path is shown
-abbrev pub SampleEndsPastRange : ℕ → PlainProblem → ℕ → RangeNote → List Action → Type 0
-SampleEndsPastRange balls p after note path =
-    (EndsPastRange (sample_search balls) p path note × (after ≡ length path)) ⊎ (CheckEndsPastRange balls p after note × (path ≡ []))
 
 -- the first line of an outcome
 abbrev pub first_line : Search → Outcome → List ℕ

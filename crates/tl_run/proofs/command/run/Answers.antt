@@ -3,13 +3,13 @@ use Rattle.std.specs.Prelude.{Some}
 use Rattle.std.specs.String.{string_bytes}
 use Rattle.tl_outside.specs.Causes.{Rose}
 use Rattle.tl_run.specs.Commands.{Command, command_in}
-use Rattle.tl_run.specs.Promises.{AnswersRightly, IsAnswer, Writes}
+use Rattle.tl_run.specs.Promises.{AnswersRightly, Writes}
 use Rattle.tl_run.specs.Sent.{SinkTold}
 use Rattle.tl_run.specs.Stops.{is_read_fault}
 use Rattle.tl_run.specs.Turns.{BeginsInTurn, CallsTold, LacksFile}
 use Rattle.tl_run.specs.Words.{command_meant}
-use Rattle.tl_run.proofs.Promised.{answer_agrees, answer_calm, has_lines, headline_of}
-use Rattle.tl_run.proofs.Sent.{bare_calm, bare_gives, bare_no_usage, bare_no_write_fault, bare_read_fault, bare_writes, no_words, same_command, sent_calm, sent_gives, sent_no_read_fault, sent_no_usage, sent_without_fault, sent_writes}
+use Rattle.tl_run.proofs.Promised.{has_lines, rightly}
+use Rattle.tl_run.proofs.Sent.{bare_no_usage, bare_no_write_fault, bare_read_fault, bare_writes, no_words, same_command, sent_no_read_fault, sent_no_usage, sent_without_fault, sent_writes}
 use Rattle.tl_run.proofs.command.run.Goals as goal
 
 pub send-requires : goal.send-requires
@@ -38,34 +38,9 @@ returns-in-Ok-clause-answers g c = λ cmd e.
     let a = command_meant c.in-Some.command in
     let reply = c.in-Ok.reply in
     let answer = c.in-Ok.ensures.answer in
-    let right : AnswersRightly files a calls reply.status reply.text = (answer, headline_of c.laws.ensures files a calls reply.status reply.text answer) in
+    let right = rightly c.laws.ensures files a calls reply.status reply.text answer in
     subst (λ (x : Command). Writes (AnswersRightly files x calls) old new c.send.result) (same_command (command_in (map string_bytes c.args.words.now)) a cmd c.in-Some.ensures.command e)
     (sent_writes (AnswersRightly files a calls) old new reply.status c.send.result reply.text (has_lines files a calls reply.status reply.text answer) right c.send.ensures.sent)
-
-pub returns-in-Ok-clause-exact : goal.returns-in-Ok-clause-exact
-returns-in-Ok-clause-exact g c = λ cmd e input answer told allowed.
-    let files = g.S.Store.files c.args.store.now in
-    let calls : CallsTold = record { before = g.S.Store.calls c.args.store.now; after = g.S.Store.calls c.reply_to.new.store } in
-    let a = command_meant c.in-Some.command in
-    let reply = c.in-Ok.reply in
-    let given : IsAnswer files cmd calls reply.status reply.text =
-    subst (λ (x : Command). IsAnswer files x calls reply.status reply.text)
-    (same_command (command_in (map string_bytes c.args.words.now)) a cmd c.in-Some.ensures.command e) c.in-Ok.ensures.answer in
-    sent_gives (record { bytes = g.K.Sink.bytes c.args.out.now; puts = g.K.Sink.puts c.args.out.now }) (record { bytes = g.K.Sink.bytes c.send.new.out; puts = g.K.Sink.puts c.send.new.out }) input answer reply.status c.send.result reply.text
-    (answer_agrees c.laws.ensures files cmd calls input answer reply.status reply.text told allowed given) c.send.ensures.sent
-
-pub returns-in-Ok-clause-calm : goal.returns-in-Ok-clause-calm
-returns-in-Ok-clause-calm g c = λ cmd e told calm.
-    let files = g.S.Store.files c.args.store.now in
-    let calls : CallsTold = record { before = g.S.Store.calls c.args.store.now; after = g.S.Store.calls c.reply_to.new.store } in
-    let a = command_meant c.in-Some.command in
-    let reply = c.in-Ok.reply in
-    let given : IsAnswer files cmd calls reply.status reply.text =
-    subst (λ (x : Command). IsAnswer files x calls reply.status reply.text)
-    (same_command (command_in (map string_bytes c.args.words.now)) a cmd c.in-Some.ensures.command e) c.in-Ok.ensures.answer in
-    sent_calm (record { bytes = g.K.Sink.bytes c.args.out.now; puts = g.K.Sink.puts c.args.out.now })
-    (record { bytes = g.K.Sink.bytes c.send.new.out; puts = g.K.Sink.puts c.send.new.out }) reply.status c.send.result reply.text
-    (answer_calm c.laws.ensures files cmd calls reply.status reply.text told calm given) c.send.ensures.sent
 
 pub returns-in-Ok-clause-usage : goal.returns-in-Ok-clause-usage
 returns-in-Ok-clause-usage g c =
@@ -122,11 +97,3 @@ returns-in-Err-clause-answers g c = λ cmd e.
     let calls : CallsTold = record { before = g.S.Store.calls c.args.store.now; after = g.S.Store.calls c.reply_to.new.store } in
     let old : SinkTold = record { bytes = g.K.Sink.bytes c.args.out.now; puts = g.K.Sink.puts c.args.out.now } in
     bare_writes (AnswersRightly files cmd calls) files (command_meant c.in-Some.command) (g.S.Store.faults c.args.store.now) (g.S.Store.faults c.reply_to.new.store) old old c.in-Err.status c.in-Err.ensures.bare refl
-
-pub returns-in-Err-clause-exact : goal.returns-in-Err-clause-exact
-returns-in-Err-clause-exact g c = λ cmd e input answer told allowed.
-    bare_gives (g.S.Store.files c.args.store.now) (command_meant c.in-Some.command) (g.S.Store.faults c.args.store.now) (g.S.Store.faults c.reply_to.new.store) (g.K.Sink.bytes c.args.out.now) (g.K.Sink.bytes c.args.out.now) input answer c.in-Err.status c.in-Err.ensures.bare
-
-pub returns-in-Err-clause-calm : goal.returns-in-Err-clause-calm
-returns-in-Err-clause-calm g c =
-    λ cmd e told calm. bare_calm (g.S.Store.files c.args.store.now) (command_meant c.in-Some.command) (g.S.Store.faults c.args.store.now) (g.S.Store.faults c.reply_to.new.store) c.in-Err.status c.in-Err.ensures.bare

@@ -1,6 +1,12 @@
-use Rattle.std.proofs.Common.{refl}
-use Rattle.tl_run.specs.Answers.{searched}
+use Rattle.std.proofs.Common.{inl}
 use Rattle.tl_run.proofs.commands.plan.outcome_reply.Goals as goal
 
 pub returns : goal.returns
-returns c = λ d p. record { answer = searched c.args.search c.args.outcome.now; right = (refl, c.requires.right); status_is = c.status_of-status.ensures; fits = c.in_ok-text.ensures.fits; text_is = c.in_ok-text.ensures.text }
+returns c = λ d p. record {
+  right = inl (record {
+    what = c.args.outcome.now;
+    right = (c.requires.right, λ asked. c.in_ok-text.ensures.fits);
+    status_is = c.status_of-status.ensures;
+    text_is = c.in_ok-text.ensures.text;
+  });
+}
