@@ -20,10 +20,9 @@ use Rattle.tl_run.specs.declared.status.Status.TheVariants.{Yes, No, Spent}
 use Rattle.tl_run.specs.Answers.{FindsCheapest}
 use Rattle.tl_run.specs.Cheapest.{IsCostOutcome, cost_status}
 use Rattle.tl_run.specs.Commands.{cheapest}
-use Rattle.tl_run.specs.Inputs.{some_costs}
 use Rattle.tl_run.specs.Promises.{Agrees, Headline, IsOwn}
-use Rattle.tl_run.specs.Turns.{HoldInput}
 use Rattle.tl_run.proofs.Agreement.{IsDone, from_range, gives_way, to_range}
+use Rattle.tl_run.proofs.Meant.{HoldCosts}
 use Rattle.tl_run.proofs.OneProblem.{SameProblem}
 
 -- what the search answers over its kept pairs is a right outcome
@@ -97,14 +96,14 @@ cheapest_agrees b d p k status given text lines m q costs others same e (inl h) 
 cheapest_agrees b d p k status given text lines m q costs others same e h (inr i) = to_range (cheapest b d p k) status given text lines (cheapest_done b status text m costs h) i.3
 cheapest_agrees b d p k status given text lines m q costs others same e (inr h) i = from_range (cheapest b d p k) status given text lines h.3 (cheapest_done b given lines q others i)
 
-outcome_says : (files : Option Files) (b : ℕ) (d p k : List ℕ) (m : Problem) (costs : List ℕ) (o : CostOutcome) (text : List ℕ) → HoldInput files (cheapest b d p k) (some_costs m costs) → IsCostOutcome b (plain_problem m) costs o → text ≡ cost_text m.names m.domain.operators b o → Headline files (cheapest b d p k) (cost_status o) text
+outcome_says : (files : Option Files) (b : ℕ) (d p k : List ℕ) (m : Problem) (costs : List ℕ) (o : CostOutcome) (text : List ℕ) → HoldCosts files d p k m costs → IsCostOutcome b (plain_problem m) costs o → text ≡ cost_text m.names m.domain.operators b o → Headline files (cheapest b d p k) (cost_status o) text
 outcome_says files b d p k m costs (outcome.Plan plan cost) text stand right line =
     (m, costs, stand, record { plan = plan; cost = cost; lines = line; cheapest = right })
 outcome_says files b d p k m costs outcome.NoPlan text stand right line = (m, costs, stand, (right, line))
 outcome_says files b d p k m costs outcome.Spent text stand right line = tt
 
 -- what the headline says of a right answer
-pub cheapest_says : (files : Option Files) (b : ℕ) (d p k : List ℕ) (status : Status) (text : List ℕ) (m : Problem) (costs : List ℕ) → HoldInput files (cheapest b d p k) (some_costs m costs) → FindsCheapest b status text m costs → Headline files (cheapest b d p k) status text
+pub cheapest_says : (files : Option Files) (b : ℕ) (d p k : List ℕ) (status : Status) (text : List ℕ) (m : Problem) (costs : List ℕ) → HoldCosts files d p k m costs → FindsCheapest b status text m costs → Headline files (cheapest b d p k) status text
 cheapest_says files b d p k status text m costs stand (inl h) =
     subst (λ (x : Status). Headline files (cheapest b d p k) x text) (sym h.status_is) (outcome_says files b d p k m costs h.what text stand h.right h.text_is)
 cheapest_says files b d p k status text m costs stand (inr h) = subst (λ (x : Status). Headline files (cheapest b d p k) x text) (sym h.3) tt

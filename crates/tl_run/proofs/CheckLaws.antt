@@ -16,10 +16,9 @@ use Rattle.tl_text.specs.Verdicts.{verdict_text}
 use Rattle.tl_run.specs.declared.status.Status.{Status}
 use Rattle.tl_run.specs.Answers.{JudgesPlan, verdict_status}
 use Rattle.tl_run.specs.Commands.{Command, check}
-use Rattle.tl_run.specs.Inputs.{a_plan}
 use Rattle.tl_run.specs.Promises.{Agrees, Headline, IsOwn}
-use Rattle.tl_run.specs.Turns.{HoldInput}
 use Rattle.tl_run.proofs.Agreement.{IsDone, from_range, same_given, to_range}
+use Rattle.tl_run.proofs.Meant.{HoldPlan}
 use Rattle.tl_run.proofs.OneProblem.{SameProblem}
 
 -- of the plan of one problem, one verdict is right
@@ -45,14 +44,14 @@ check_agrees law c status given text lines m n plan other same e (inl h) (inl k)
 check_agrees law c status given text lines m n plan other same e h (inr k) = to_range c status given text lines (check_done status text m plan h) k.3
 check_agrees law c status given text lines m n plan other same e (inr h) k = from_range c status given text lines h.3 (check_done given lines n other k)
 
-verdict_says : (files : Option Files) (d p q : List ℕ) (problem : Problem) (plan : List Action) (v : Verdict) (text : List ℕ) → HoldInput files (check d p q) (a_plan problem plan) → IsVerdict (plain_problem problem) plan v → text ≡ verdict_text v → Headline files (check d p q) (verdict_status v) text
+verdict_says : (files : Option Files) (d p q : List ℕ) (problem : Problem) (plan : List Action) (v : Verdict) (text : List ℕ) → HoldPlan files d p q problem plan → IsVerdict (plain_problem problem) plan v → text ≡ verdict_text v → Headline files (check d p q) (verdict_status v) text
 verdict_says files d p q problem plan Valid text stand right line = (problem, plan, stand, (right, line))
 verdict_says files d p q problem plan (NotExecutable n) text stand right line = tt
 verdict_says files d p q problem plan GoalUnmet text stand right line = tt
 verdict_says files d p q problem plan Disobeys text stand right line = tt
 
 -- what the headline says of a right answer
-pub check_says : (files : Option Files) (d p q : List ℕ) (status : Status) (text : List ℕ) (m : Problem) (plan : List Action) → HoldInput files (check d p q) (a_plan m plan) → JudgesPlan status text m plan → Headline files (check d p q) status text
+pub check_says : (files : Option Files) (d p q : List ℕ) (status : Status) (text : List ℕ) (m : Problem) (plan : List Action) → HoldPlan files d p q m plan → JudgesPlan status text m plan → Headline files (check d p q) status text
 check_says files d p q status text m plan stand (inl h) =
     subst (λ (s : Status). Headline files (check d p q) s text) (sym h.status_is) (verdict_says files d p q m plan h.what text stand h.right h.text_is)
 check_says files d p q status text m plan stand (inr h) = subst (λ (s : Status). Headline files (check d p q) s text) (sym h.3) tt

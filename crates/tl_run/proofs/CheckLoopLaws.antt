@@ -17,10 +17,9 @@ use Rattle.tl_run.specs.declared.status.Status.{Status}
 use Rattle.tl_run.specs.Answers.{JudgesLoop}
 use Rattle.tl_run.specs.CheckLoop.{loop_status}
 use Rattle.tl_run.specs.Commands.{Command, check_loop}
-use Rattle.tl_run.specs.Inputs.{a_loop}
 use Rattle.tl_run.specs.Promises.{Agrees, Headline, IsOwn}
-use Rattle.tl_run.specs.Turns.{HoldInput}
 use Rattle.tl_run.proofs.Agreement.{IsDone, from_range, same_given, to_range}
+use Rattle.tl_run.proofs.Meant.{HoldLoop}
 use Rattle.tl_run.proofs.OneProblem.{SameProblem}
 
 -- of the plan of one problem, one verdict is right
@@ -47,7 +46,7 @@ check_loop_agrees law c status given text lines m n plan other same e (inl h) (i
 check_loop_agrees law c status given text lines m n plan other same e h (inr k) = to_range c status given text lines (check_loop_done status text m plan h) k.3
 check_loop_agrees law c status given text lines m n plan other same e (inr h) k = from_range c status given text lines h.3 (check_loop_done given lines n other k)
 
-verdict_says : (files : Option Files) (d p q : List ℕ) (problem : Problem) (plan : LoopPlan) (v : LoopVerdict) (text : List ℕ) → HoldInput files (check_loop d p q) (a_loop problem plan) → IsLoopVerdict (plain_problem problem) plan.stem plan.cycle v → text ≡ loop_text v → Headline files (check_loop d p q) (loop_status v) text
+verdict_says : (files : Option Files) (d p q : List ℕ) (problem : Problem) (plan : LoopPlan) (v : LoopVerdict) (text : List ℕ) → HoldLoop files d p q problem plan → IsLoopVerdict (plain_problem problem) plan.stem plan.cycle v → text ≡ loop_text v → Headline files (check_loop d p q) (loop_status v) text
 verdict_says files d p q problem plan Valid text stand right line = (problem, plan, stand, (right, line))
 verdict_says files d p q problem plan (NotExecutable n) text stand right line = tt
 verdict_says files d p q problem plan NotClosed text stand right line = tt
@@ -55,7 +54,7 @@ verdict_says files d p q problem plan GoalUnmet text stand right line = tt
 verdict_says files d p q problem plan Disobeys text stand right line = tt
 
 -- what the headline says of a right answer
-pub check_loop_says : (files : Option Files) (d p q : List ℕ) (status : Status) (text : List ℕ) (m : Problem) (plan : LoopPlan) → HoldInput files (check_loop d p q) (a_loop m plan) → JudgesLoop status text m plan → Headline files (check_loop d p q) status text
+pub check_loop_says : (files : Option Files) (d p q : List ℕ) (status : Status) (text : List ℕ) (m : Problem) (plan : LoopPlan) → HoldLoop files d p q m plan → JudgesLoop status text m plan → Headline files (check_loop d p q) status text
 check_loop_says files d p q status text m plan stand (inl h) =
     subst (λ (s : Status). Headline files (check_loop d p q) s text) (sym h.status_is) (verdict_says files d p q m plan h.what text stand h.right h.text_is)
 check_loop_says files d p q status text m plan stand (inr h) = subst (λ (s : Status). Headline files (check_loop d p q) s text) (sym h.3) tt

@@ -19,11 +19,10 @@ use Rattle.tl_run.specs.declared.status.Status.{Status}
 use Rattle.tl_run.specs.Answers.{JudgesProof}
 use Rattle.tl_run.specs.CheckNone.{none_status}
 use Rattle.tl_run.specs.Commands.{Command, check_none}
-use Rattle.tl_run.specs.Inputs.{a_proof}
 use Rattle.tl_run.specs.Laws.{Laws}
 use Rattle.tl_run.specs.Promises.{Agrees, Headline, IsOwn}
-use Rattle.tl_run.specs.Turns.{HoldInput}
 use Rattle.tl_run.proofs.Agreement.{IsDone, from_range, same_given, to_range}
+use Rattle.tl_run.proofs.Meant.{HoldProof}
 use Rattle.tl_run.proofs.OneProblem.{SameProblem}
 use Rattle.tl_run.proofs.SameProofs.{same_none_text}
 
@@ -58,7 +57,7 @@ check_none_agrees law c status given text lines m n proof other same e (inl h) (
 check_none_agrees law c status given text lines m n proof other same e h (inr k) = to_range c status given text lines (check_none_done status text m proof h) k.3
 check_none_agrees law c status given text lines m n proof other same e (inr h) k = from_range c status given text lines h.3 (check_none_done given lines n other k)
 
-verdict_says : Laws → (files : Option Files) (d p q : List ℕ) (problem : Problem) (proof : Proof) (v : NoneVerdict) (text : List ℕ) → HoldInput files (check_none d p q) (a_proof problem proof) → IsNoneVerdict (plain_problem problem) proof v → text ≡ proof_verdict_text problem.names problem.domain.operators proof.bound v → Headline files (check_none d p q) (none_status v) text
+verdict_says : Laws → (files : Option Files) (d p q : List ℕ) (problem : Problem) (proof : Proof) (v : NoneVerdict) (text : List ℕ) → HoldProof files d p q problem proof → IsNoneVerdict (plain_problem problem) proof v → text ≡ proof_verdict_text problem.names problem.domain.operators proof.bound v → Headline files (check_none d p q) (none_status v) text
 verdict_says laws files d p q problem proof Proved text stand right line =
     (problem, proof, stand, record { covers = right; none = laws.covered (plain_problem problem) proof right; line = line })
 verdict_says laws files d p q problem proof (BadLink k) text stand right line = tt
@@ -66,7 +65,7 @@ verdict_says laws files d p q problem proof (Accepts k) text stand right line = 
 verdict_says laws files d p q problem proof (Open k a) text stand right line = tt
 
 -- what the headline says of a right answer
-pub check_none_says : Laws → (files : Option Files) (d p q : List ℕ) (status : Status) (text : List ℕ) (m : Problem) (proof : Proof) → HoldInput files (check_none d p q) (a_proof m proof) → JudgesProof status text m proof → Headline files (check_none d p q) status text
+pub check_none_says : Laws → (files : Option Files) (d p q : List ℕ) (status : Status) (text : List ℕ) (m : Problem) (proof : Proof) → HoldProof files d p q m proof → JudgesProof status text m proof → Headline files (check_none d p q) status text
 check_none_says laws files d p q status text m proof stand (inl h) =
     subst (λ (s : Status). Headline files (check_none d p q) s text) (sym h.status_is) (verdict_says laws files d p q m proof h.what text stand h.right h.text_is)
 check_none_says laws files d p q status text m proof stand (inr h) = subst (λ (s : Status). Headline files (check_none d p q) s text) (sym h.3) tt

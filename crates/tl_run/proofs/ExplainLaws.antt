@@ -14,10 +14,9 @@ use Rattle.tl_terms.specs.ProblemMeaning.{plain_problem}
 use Rattle.tl_run.specs.declared.status.Status.{Status}
 use Rattle.tl_run.specs.Answers.{ExplainsPlan}
 use Rattle.tl_run.specs.Commands.{Command, explain}
-use Rattle.tl_run.specs.Inputs.{a_plan}
 use Rattle.tl_run.specs.Promises.{Agrees, Headline, IsOwn}
-use Rattle.tl_run.specs.Turns.{HoldInput}
 use Rattle.tl_run.proofs.Agreement.{IsDone, from_range, to_range}
+use Rattle.tl_run.proofs.Meant.{HoldPlan}
 use Rattle.tl_run.proofs.OneProblem.{SameProblem}
 use Rattle.tl_run.proofs.SameExplanation.{same_explanation}
 
@@ -33,7 +32,7 @@ explain_agrees c status given text lines m n plan other same e h (inr k) = to_ra
 explain_agrees c status given text lines m n plan other same e (inr h) k = from_range c status given text lines h.3 (explain_done given lines n other k)
 
 -- what the headline says of a right answer
-pub explain_says : (files : Option Files) (d p q : List ℕ) (status : Status) (text : List ℕ) (m : Problem) (plan : List Action) → HoldInput files (explain d p q) (a_plan m plan) → ExplainsPlan status text m plan → Headline files (explain d p q) status text
+pub explain_says : (files : Option Files) (d p q : List ℕ) (status : Status) (text : List ℕ) (m : Problem) (plan : List Action) → HoldPlan files d p q m plan → ExplainsPlan status text m plan → Headline files (explain d p q) status text
 explain_says files d p q status text m plan stand (inl h) =
     subst (λ (s : Status). Headline files (explain d p q) s text) (sym h.0) (m, plan, stand, subst (Explains m plan) (sym h.1) (text-explains m plan))
 explain_says files d p q status text m plan stand (inr h) = subst (λ (s : Status). Headline files (explain d p q) s text) (sym h.3) tt

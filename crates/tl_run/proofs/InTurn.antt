@@ -26,7 +26,7 @@ module _ (law : FilesStandForOneProblem) (files : Files) where
   next_same : (r : Role) (name : List ℕ) (a b x y : Input) (m n : List ℕ) → SameInput a b → IsContent (Some files) name m → StandsFor r a m x → IsContent (Some files) name n → StandsFor r b n y → SameInput x y
   next_same r name a b x y m n same p h q k = stands_one law r a b x y n same (subst (λ (u : List ℕ). StandsFor r a u x) (content_one files name m n p q) h) k
 
-  stand_same : (fs : List (Role × List ℕ)) (a b x y : Input) → SameInput a b → StandTogether (Some files) fs a x → StandTogether (Some files) fs b y → SameInput x y
+  pub stand_same : (fs : List (Role × List ℕ)) (a b x y : Input) → SameInput a b → StandTogether (Some files) fs a x → StandTogether (Some files) fs b y → SameInput x y
   stand_same [] a b x y same h k = subst (λ (u : Input). SameInput u y) h (subst (λ (u : Input). SameInput a u) k same)
   stand_same (f ∷ fs) a b x y same h k = stand_same fs h.1 k.1 x y (next_same f.0 f.1 a b h.1 k.1 h.0 k.0 same h.2 h.3 k.2 k.3) h.4 k.4
 
@@ -55,7 +55,7 @@ module _ (law : FilesStandForOneProblem) (files : Files) where
 -- the same of the two texts of a sample
 
 module _ (law : FilesStandForOneProblem) (balls : ℕ) where
-  sample_one : (x y : Input) → SampleStandsFor balls x → SampleStandsFor balls y → SameInput x y
+  pub sample_one : (x y : Input) → SampleStandsFor balls x → SampleStandsFor balls y → SameInput x y
   sample_one x y h k = stands_one law role.Problem h.0 k.0 x y (problem_text balls) (stands_one law role.Domain nothing nothing h.0 k.0 domain_text tt h.1 k.1) h.2 k.2
 
   no_broken_text : (x : Input) (number : ℕ) (b : Broken) → SampleStandsFor balls x → BreaksSample balls number b → ⊥
@@ -72,11 +72,6 @@ module _ (law : FilesStandForOneProblem) (balls : ℕ) where
       let first = s.1 in
       let second = t.1 in
       (s.0 ∙ sym t.0, broken_one role.Problem first.0 second.0 (problem_text balls) a b (stands_one law role.Domain nothing nothing first.0 second.0 domain_text tt first.1 second.1) first.2 second.2)
-
--- told files stand for one thing
-pub one_input : FilesStandForOneProblem → (files : Files) (c : Command) (x y : Input) → HoldInput (Some files) c x → HoldInput (Some files) c y → SameInput x y
-one_input law files (sample balls) x y h k = sample_one law balls x y h k
-one_input law files c x y h k = stand_same law files (files_of c) nothing nothing x y tt h k
 
 -- told files that stand for something are not refused
 pub no_refusal : FilesStandForOneProblem → (files : Files) (c : Command) (x : Input) (number : ℕ) (m : Broken) → HoldInput (Some files) c x → IsRefused (Some files) c number m → ⊥

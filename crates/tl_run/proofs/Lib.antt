@@ -11,6 +11,7 @@ pub mod SameExplanation
 pub mod SameInputs
 pub mod Exclusive
 pub mod InTurn
+pub mod Meant
 pub mod Agreement
 pub mod CheckLaws
 pub mod OneOutcome

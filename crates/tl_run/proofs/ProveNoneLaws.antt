@@ -13,12 +13,11 @@ use Rattle.tl_run.specs.declared.status.Status.{Status}
 use Rattle.tl_run.specs.declared.status.Status.TheVariants.{Yes}
 use Rattle.tl_run.specs.Answers.{GivesNoProof, GivesProof, ProvesNone, outcome_status}
 use Rattle.tl_run.specs.Commands.{prove_none}
-use Rattle.tl_run.specs.Inputs.{a_problem}
 use Rattle.tl_run.specs.Laws.{Laws}
+use Rattle.tl_run.specs.Over.{HoldProblem}
 use Rattle.tl_run.specs.Plan.{HasCalmSearch, IsOutcome}
 use Rattle.tl_run.specs.Promises.{Agrees, GivesWay, Headline, IsOwn}
 use Rattle.tl_run.specs.ProveNone.{IsBoundOf, IsCertificate, LeavesNoProof, unproved_status}
-use Rattle.tl_run.specs.Turns.{HoldInput}
 use Rattle.tl_run.proofs.Agreement.{IsDone, from_range, gives_way, same_given, to_range}
 use Rattle.tl_run.proofs.OneOutcome.{IsOneOrYields}
 use Rattle.tl_run.proofs.OneProblem.{SameProblem}
@@ -144,14 +143,14 @@ prove_none_agrees laws s d p status given text lines m n same (inr (inl h)) (inr
 prove_none_agrees laws s d p status given text lines m n same h (inr (inr k)) = to_range (prove_none s d p) status given text lines (prove_none_done false s status text m h) k.3
 prove_none_agrees laws s d p status given text lines m n same (inr (inr h)) k = from_range (prove_none s d p) status given text lines h.3 (prove_none_done true s given lines n k)
 
-unproved_says : (files : Option Files) (s : Search) (d p : List ℕ) (m : Problem) (o : Outcome) (text : List ℕ) → HoldInput files (prove_none s d p) (a_problem m) → IsOutcome s (plain_problem m) o → LeavesNoProof o → text ≡ outcome_text m.names m.domain.operators s.within s.nodes o → Headline files (prove_none s d p) (unproved_status o) text
+unproved_says : (files : Option Files) (s : Search) (d p : List ℕ) (m : Problem) (o : Outcome) (text : List ℕ) → HoldProblem files d p m → IsOutcome s (plain_problem m) o → LeavesNoProof o → text ≡ outcome_text m.names m.domain.operators s.within s.nodes o → Headline files (prove_none s d p) (unproved_status o) text
 unproved_says files s d p m (outcome.Plan plan) text stand right leaves line = (m, stand, prints_plan s m plan text right line)
 unproved_says files s d p m outcome.NoPlan text stand right leaves line = absurd leaves
 unproved_says files s d p m outcome.NoneWithin text stand right leaves line = absurd leaves
 unproved_says files s d p m outcome.Spent text stand right leaves line = tt
 
 -- what the headline says of a right answer
-pub prove_none_says : Laws → (files : Option Files) (s : Search) (d p : List ℕ) (status : Status) (text : List ℕ) (m : Problem) → HoldInput files (prove_none s d p) (a_problem m) → ProvesNone true s status text m → Headline files (prove_none s d p) status text
+pub prove_none_says : Laws → (files : Option Files) (s : Search) (d p : List ℕ) (status : Status) (text : List ℕ) (m : Problem) → HoldProblem files d p m → ProvesNone true s status text m → Headline files (prove_none s d p) status text
 prove_none_says laws files s d p status text m stand (inl h) =
     let c : IsCertificate s (plain_problem m) h.what = h.right.0 in
     subst (λ (x : Status). Headline files (prove_none s d p) x text) (sym h.status_is)

@@ -10,6 +10,8 @@ use Rattle.std.proofs.lemmas.Option.{slice_get-get_or, slice_get_within, same_So
 use Rattle.tl_cert.specs.Covers.{Covers}
 use Rattle.tl_cert.specs.LawsReadBack as proof
 use Rattle.tl_cert.specs.Links.{AreGood, IsGood}
+use Rattle.tl_cert.specs.MeaningOfProofs.{proof_meant}
+use Rattle.tl_cert.specs.ProofFiles.{proof_breaks}
 use Rattle.tl_cert.specs.ProofTexts.{LinksFit, proof_text}
 use Rattle.tl_cert.specs.declared.proof.Link.{Link}
 use Rattle.tl_cert.specs.declared.proof.Proof.{Proof}
@@ -45,20 +47,21 @@ use Rattle.tl_terms.specs.World.{World}
 use Rattle.tl_terms.proofs.PassingSteps.{arguments-of-executed-pass, step-arguments, step-passes}
 use Rattle.tl_terms.proofs.PassingWorlds.{WorldPasses, first-passes}
 use Rattle.tl_terms.proofs.StepLaws.{step-exactly}
+use Rattle.tl_text.specs.MeaningOfPlans.{plan_meant}
 use Rattle.tl_text.specs.Outcomes.{PlanFits, outcome_text, plan_text}
+use Rattle.tl_text.specs.Plans.{plan_breaks}
 use Rattle.tl_text.proofs.PlanReadBack.{plan-read-back}
 use Rattle.tl_run.specs.declared.search.Search.{Search}
 use Rattle.tl_run.specs.declared.status.Status.TheVariants.{Yes, No, Refused, Range}
-use Rattle.tl_run.specs.declared.words.Role.{Role}
-use Rattle.tl_run.specs.declared.words.Role.TheVariants as role
 use Rattle.tl_run.specs.Answers.{outcome_status}
-use Rattle.tl_run.specs.Commands.{prove_none, search, three_files, two_files}
-use Rattle.tl_run.specs.Inputs.{Input, nothing, a_domain, a_problem, a_plan, a_proof, StandsFor}
+use Rattle.tl_run.specs.Commands.{prove_none, search}
+use Rattle.tl_run.specs.Files.{SpellShortly}
+use Rattle.tl_run.specs.Over.{HoldProblem, HoldThird, StandForProblem}
 use Rattle.tl_run.specs.Plan.{IsOutcome}
 use Rattle.tl_run.specs.Promises.{IsAnswer}
 use Rattle.tl_run.specs.ProveNone.{IsBoundOf, IsCertificate, LeavesNoProof, unproved_status}
 use Rattle.tl_run.specs.ReadBack.{AreBytesOf, ExecutedPlansAreReadBack, IsProofFile, IsValidFile, PrintedPlansAreValid, PrintedProofsAreProved}
-use Rattle.tl_run.specs.Turns.{CallsTold, HoldInput, StandTogether}
+use Rattle.tl_run.specs.Turns.{CallsTold}
 use Rattle.tl_run.proofs.NamedPlans.{IsOfOperator, states_take, step_takes}
 use Rattle.tl_run.proofs.OneOutcome.{plan_within}
 use Rattle.tl_run.proofs.Replied.{counts_seen}
@@ -191,47 +194,34 @@ executed-plans-read-back domain problem p actions ws are e fit few =
     let can = writable-names domain problem p are in
     plan-read-back p.names p.domain.operators actions (names-differ p.names p.settled) can.operators (plan-writable p can actions ws e fit) few
 
--- what two files hold that stand for a problem
-record AreRead (m : Problem) : Type 0 where
-  pub domain : List ℕ
-  pub problem : List ℕ
-  pub are : AreBytesOf domain problem m
-
-two-read : (files : Option Files) (d p : List ℕ) (m : Problem) → StandTogether files (two_files d p) nothing (a_problem m) → AreRead m
-two-read files d p m h = by-domain h.1 h.3 (subst (λ (x : Input). StandsFor role.Problem h.1 h.4.0 x) h.4.4 h.4.3)
-  where
-    by-domain : (after : Input) → StandsFor role.Domain nothing h.0 after → StandsFor role.Problem after h.4.0 (a_problem m) → AreRead m
-    by-domain (a_domain first) a b = record {
-      domain = h.0;
-      problem = h.4.0;
-      are = record { first = first; second = b.forms; first_spelled = subst (Spells h.0) (sym a.meant) a.spelled.spelled; second_spelled = b.spelled.spelled; files = b.meant };
-    }
-    by-domain x a b = absurd a.meant
-
--- a third file after them
-one-more : (files : Option Files) (d p q text : List ℕ) (r : Role) (m : Problem) (x : Input) → StandTogether files (two_files d p) nothing (a_problem m) → IsContent files q text → StandsFor r (a_problem m) text x → StandTogether files (three_files d p r q) nothing x
-one-more files d p q text r m x h content stands =
-    (h.0, h.1, h.2, h.3, (h.4.0, h.4.1, h.4.2, h.4.3, (text, x, content, subst (λ (before : Input). StandsFor r before text x) (sym h.4.4) stands, refl)))
+-- the bytes of the files of a problem
+bytes_of : (domain problem : List ℕ) (m : Problem) → StandForProblem domain problem m → AreBytesOf domain problem m
+bytes_of domain problem m both =
+    let first : SpellShortly domain both.first = both.first_spelled in
+    let second : SpellShortly problem both.second = both.second_spelled in
+    record { first = both.first; second = both.second; first_spelled = first.spelled; second_spelled = second.spelled; files = both.files }
 
 -- the files allow a plan of them that is accepted, from its lines
-plan-valid : (files : Option Files) (d p q text : List ℕ) (s : Search) (m : Problem) (actions : List Action) → StandTogether files (two_files d p) nothing (a_problem m) → IsOutcome s (plain_problem m) (outcome.Plan actions) → Each ArgumentsFit actions → text ≡ plan_text m.names m.domain.operators actions → s.within ≤ 100000 → length text ≤ 4194304 → IsContent files q text → IsValidFile files d p q text
+plan-valid : (files : Option Files) (d p q text : List ℕ) (s : Search) (m : Problem) (actions : List Action) → HoldProblem files d p m → IsOutcome s (plain_problem m) (outcome.Plan actions) → Each ArgumentsFit actions → text ≡ plan_text m.names m.domain.operators actions → s.within ≤ 100000 → length text ≤ 4194304 → IsContent files q text → IsValidFile files d p q text
 plan-valid files d p q text s m actions stand right fit lines limit short content =
     let within = plan_within s.mode s.within s.nodes (plain_problem m) actions right in
     let few : length actions ≤ s.within = within.short in
     let accepted = within.accepted in
-    let read = two-read files d p m stand in
-    let back = executed-plans-read-back read.domain read.problem m actions (accepted.from ∷ accepted.after) read.are accepted.executes fit (omega (arith, few, limit)) in
+    let are = bytes_of stand.domain stand.problem m stand.stand in
+    let back = executed-plans-read-back stand.domain stand.problem m actions (accepted.from ∷ accepted.after) are accepted.executes fit (omega (arith, few, limit)) in
     let spelled = subst (λ (bytes : List ℕ). Spells bytes back.forms) (sym lines) back.spelled in
-    let stands : StandsFor role.Plan (a_problem m) text (a_plan m actions) = record {
+    let third : HoldThird files q (plan_breaks m.names m.domain.operators) (plan_meant m.names m.domain.operators) actions = record {
+      bytes = text;
+      content = content;
       forms = back.forms;
       spelled = record { short = short; spelled = spelled };
       lawful = back.unbroken;
-      meant = (refl, sym back.meant);
+      means = sym back.meant;
     } in
-    (m, actions, one-more files d p q text role.Plan m (a_plan m actions) stand content stands, (lines, accepted))
+    (m, actions, (stand, third), (lines, accepted))
 
 module _ (files : Option Files) (s : Search) (d p q text : List ℕ) (told : CallsTold) (limit : s.within ≤ 100000) (short : length text ≤ 4194304) (content : IsContent files q text) where
-  outcome-valid : (m : Problem) (o : Outcome) → Yes ≡ outcome_status o → HoldInput files (search s d p) (a_problem m) → IsOutcome s (plain_problem m) o → PlanFits o → text ≡ outcome_text m.names m.domain.operators s.within s.nodes o → IsValidFile files d p q text
+  outcome-valid : (m : Problem) (o : Outcome) → Yes ≡ outcome_status o → HoldProblem files d p m → IsOutcome s (plain_problem m) o → PlanFits o → text ≡ outcome_text m.names m.domain.operators s.within s.nodes o → IsValidFile files d p q text
   outcome-valid m (outcome.Plan actions) done stand right fit lines = plan-valid files d p q text s m actions stand right fit lines limit short content
   outcome-valid m outcome.NoPlan done stand right fit lines = absurd (let k : ⊥ = cc in k)
   outcome-valid m outcome.NoneWithin done stand right fit lines = absurd (let k : ⊥ = cc in k)
@@ -242,7 +232,7 @@ module _ (files : Option Files) (s : Search) (d p q text : List ℕ) (told : Cal
   answer-valid (inl (m, stand, inr h)) = absurd (let e : Yes ≡ Range = h.3 in let k : ⊥ = cc in k)
   answer-valid (inr h) = let refuses = h.2 in absurd (let e : Yes ≡ Refused = refuses.1 in let k : ⊥ = cc in k)
 
-  unproved-valid : (m : Problem) (o : Outcome) → No ≡ unproved_status o → HoldInput files (prove_none s d p) (a_problem m) → IsOutcome s (plain_problem m) o → LeavesNoProof o → PlanFits o → text ≡ outcome_text m.names m.domain.operators s.within s.nodes o → IsValidFile files d p q text
+  unproved-valid : (m : Problem) (o : Outcome) → No ≡ unproved_status o → HoldProblem files d p m → IsOutcome s (plain_problem m) o → LeavesNoProof o → PlanFits o → text ≡ outcome_text m.names m.domain.operators s.within s.nodes o → IsValidFile files d p q text
   unproved-valid m (outcome.Plan actions) done stand right leaves fit lines = plan-valid files d p q text s m actions stand right fit lines limit short content
   unproved-valid m outcome.NoPlan done stand right leaves fit lines = absurd leaves
   unproved-valid m outcome.NoneWithin done stand right leaves fit lines = absurd leaves
@@ -260,19 +250,20 @@ module _ (files : Option Files) (s : Search) (d p q text : List ℕ) (told : Cal
   bound-writable outcome.NoneWithin bound h = subst proof.IsBoundWritable (sym h) limit
   bound-writable outcome.Spent bound h = absurd h
 
-  certificate-proved : (m : Problem) (certificate : Proof) → HoldInput files (prove_none s d p) (a_problem m) → IsCertificate s (plain_problem m) certificate → LinksFit certificate.links → text ≡ proof_text m.names m.domain.operators certificate → IsProofFile files d p q text
+  certificate-proved : (m : Problem) (certificate : Proof) → HoldProblem files d p m → IsCertificate s (plain_problem m) certificate → LinksFit certificate.links → text ≡ proof_text m.names m.domain.operators certificate → IsProofFile files d p q text
   certificate-proved m certificate stand right fit lines =
-      let read = two-read files d p m stand in
-      let can = writable-names read.domain read.problem m read.are in
+      let can = writable-names stand.domain stand.problem m (bytes_of stand.domain stand.problem m stand.stand) in
       let back = proof-read-back m.names m.domain.operators certificate (names-differ m.names m.settled) can.operators (proof-writable m can certificate right.covers fit) right.order right.few (bound-writable right.ended certificate.bound right.bound) in
       let spelled = subst (λ (bytes : List ℕ). Spells bytes back.forms) (sym lines) back.spelled in
-      let stands : StandsFor role.Proof (a_problem m) text (a_proof m certificate) = record {
+      let third : HoldThird files q (proof_breaks m.names m.domain.operators) (proof_meant m.names m.domain.operators) certificate = record {
+        bytes = text;
+        content = content;
         forms = back.forms;
         spelled = record { short = short; spelled = spelled };
         lawful = back.unbroken;
-        meant = (refl, sym back.meant);
+        means = sym back.meant;
       } in
-      (m, certificate, one-more files d p q text role.Proof m (a_proof m certificate) stand content stands, (lines, right.covers))
+      (m, certificate, (stand, third), (lines, right.covers))
 
   no-proof : (o : Outcome) → Yes ≡ unproved_status o → ⊥
   no-proof (outcome.Plan actions) done = let k : ⊥ = cc in k

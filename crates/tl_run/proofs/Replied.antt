@@ -43,6 +43,7 @@ use Rattle.tl_run.specs.Refusals.{refusal_text}
 use Rattle.tl_run.specs.Replies.{Replies}
 use Rattle.tl_run.specs.Sample.{IsSummary, sample_search, sample_text}
 use Rattle.tl_run.specs.Turns.{BeginsFirst, CallsTold, HoldInput, IsRefused}
+use Rattle.tl_run.proofs.Meant.{costs_held, loop_held, plan_held, problem_held, proof_held, sample_held}
 use Rattle.tl_run.proofs.SeenTwice.{map_seen}
 
 pub counts_seen : (p : Problem) → map (λ (o : PlainOperator). length o.params) (plain_problem p).operators ≡ map (λ o. length o.params) p.domain.operators
@@ -119,15 +120,15 @@ loop_range_replied d p q problem plan after note text cause t = record { right =
 
 -- a right reply over the input is right over the files: one line for each command
 right_answers : (files : Option Files) (c : Command) (x : Input) (reply : Reply) → HoldInput files c x → Replies c x reply → Answers true files c reply.status reply.text
-right_answers files (check d p q) (a_plan m plan) reply stand r = (m, plan, stand, r.right)
-right_answers files (search s d p) (a_problem m) reply stand r = (m, stand, r.right)
-right_answers files (trace s d p) (a_problem m) reply stand r = (m, stand, r.right)
-right_answers files (explain d p q) (a_plan m plan) reply stand r = (m, plan, stand, r.right)
-right_answers files (prove_none s d p) (a_problem m) reply stand r = (m, stand, r.right)
-right_answers files (check_none d p q) (a_proof m proof) reply stand r = (m, proof, stand, r.right)
-right_answers files (sample n) (a_problem m) reply stand r = (m, stand, r.right)
-right_answers files (cheapest b d p k) (some_costs m costs) reply stand r = (m, costs, stand, r.right)
-right_answers files (check_loop d p q) (a_loop m plan) reply stand r = (m, plan, stand, r.right)
+right_answers files (check d p q) (a_plan m plan) reply stand r = (m, plan, plan_held files d p q m plan stand, r.right)
+right_answers files (search s d p) (a_problem m) reply stand r = (m, problem_held files d p m stand, r.right)
+right_answers files (trace s d p) (a_problem m) reply stand r = (m, problem_held files d p m stand, r.right)
+right_answers files (explain d p q) (a_plan m plan) reply stand r = (m, plan, plan_held files d p q m plan stand, r.right)
+right_answers files (prove_none s d p) (a_problem m) reply stand r = (m, problem_held files d p m stand, r.right)
+right_answers files (check_none d p q) (a_proof m proof) reply stand r = (m, proof, proof_held files d p q m proof stand, r.right)
+right_answers files (sample n) (a_problem m) reply stand r = (m, sample_held n m stand, r.right)
+right_answers files (cheapest b d p k) (some_costs m costs) reply stand r = (m, costs, costs_held files d p k m costs stand, r.right)
+right_answers files (check_loop d p q) (a_loop m plan) reply stand r = (m, plan, loop_held files d p q m plan stand, r.right)
 right_answers files c x reply stand r = absurd r.right
 
 -- so it is an answer that the files allow

@@ -8,6 +8,7 @@ use Rattle.tl_check.specs.declared.verdict.Verdict.{Verdict}
 use Rattle.tl_check.specs.declared.verdict.Verdict.TheVariants.{Valid}
 use Rattle.tl_eval.specs.Notes.{operation_of, Tells}
 use Rattle.tl_eval.specs.declared.range.RangeNote.{RangeNote}
+use Rattle.tl_gen.specs.Samples.{domain_text, problem_text}
 use Rattle.tl_outside.specs.Told.{Files}
 use Rattle.tl_search.specs.declared.outcome.Outcome.{Outcome}
 use Rattle.tl_search.specs.declared.outcome.Outcome.TheVariants as outcome
@@ -24,12 +25,11 @@ use Rattle.tl_run.specs.declared.search.Mode.TheVariants.{Depth}
 use Rattle.tl_run.specs.declared.status.Status.{Status}
 use Rattle.tl_run.specs.Answers.{GivesSummary, Samples}
 use Rattle.tl_run.specs.Commands.{sample}
-use Rattle.tl_run.specs.Inputs.{a_problem}
 use Rattle.tl_run.specs.Laws.{Laws}
+use Rattle.tl_run.specs.Over.{StandForProblem}
 use Rattle.tl_run.specs.Plan.{EndsPastRange}
 use Rattle.tl_run.specs.Promises.{Agrees, Headline, IsOwn}
 use Rattle.tl_run.specs.Sample.{CheckEndsPastRange, IsJudged, IsSummary, Summarizes, sample_search, sample_text}
-use Rattle.tl_run.specs.Turns.{HoldInput}
 use Rattle.tl_run.proofs.Agreement.{IsDone, from_range, to_range}
 use Rattle.tl_run.proofs.OneOutcome.{plan_within, no_plan, no_plan_within}
 use Rattle.tl_run.proofs.OneProblem.{SameProblem}
@@ -85,7 +85,7 @@ summarizes laws m p kept outcome.Spent None text h line = line
 summarizes laws m p kept outcome.Spent (Some v) text h line = absurd h.judged
 
 -- what the headline says of a right answer
-pub sample_says : Laws → (files : Option Files) (m : ℕ) (status : Status) (text : List ℕ) (p : Problem) → HoldInput files (sample m) (a_problem p) → Samples m status text p → Headline files (sample m) status text
+pub sample_says : Laws → (files : Option Files) (m : ℕ) (status : Status) (text : List ℕ) (p : Problem) → StandForProblem domain_text (problem_text m) p → Samples m status text p → Headline files (sample m) status text
 sample_says laws files m status text p stand (inl h) =
     let summary : IsSummary m (plain_problem p) h.kept h.ended h.verdict = h.right in
     subst (λ (x : Status). Headline files (sample m) x text) (sym h.status_is) (

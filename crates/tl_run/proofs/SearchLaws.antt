@@ -15,11 +15,10 @@ use Rattle.tl_run.specs.declared.search.Search.{Search}
 use Rattle.tl_run.specs.declared.status.Status.{Status}
 use Rattle.tl_run.specs.Answers.{PastRangeAt, Searches, outcome_status}
 use Rattle.tl_run.specs.Commands.{Command, search}
-use Rattle.tl_run.specs.Inputs.{a_problem}
 use Rattle.tl_run.specs.Laws.{Laws}
+use Rattle.tl_run.specs.Over.{HoldProblem}
 use Rattle.tl_run.specs.Plan.{EndsPastRange, HasCalmSearch, IsOutcome, PrintsPlan, SaysNone}
 use Rattle.tl_run.specs.Promises.{Agrees, Headline, IsOwn}
-use Rattle.tl_run.specs.Turns.{HoldInput}
 use Rattle.tl_run.proofs.Agreement.{IsDone, from_range, gives_way, same_given, to_range}
 use Rattle.tl_run.proofs.OneOutcome.{IsOneOrYields, one_outcome, calm_outcome, plan_within, plan_shortest, no_plan, no_plan_within}
 use Rattle.tl_run.proofs.OneProblem.{SameProblem}
@@ -81,14 +80,14 @@ says_none s m text right line = inl (line, no_plan s.mode s.within s.nodes (plai
 pub says_none_within : (s : Search) (m : Problem) (text : List ℕ) → IsOutcome s (plain_problem m) outcome.NoneWithin → text ≡ none_within_text s.within → SaysNone s.within text m
 says_none_within s m text right line = inr (line, no_plan_within s.mode s.within s.nodes (plain_problem m) right)
 
-outcome_says : (files : Option Files) (s : Search) (d p : List ℕ) (m : Problem) (o : Outcome) (text : List ℕ) → HoldInput files (search s d p) (a_problem m) → IsOutcome s (plain_problem m) o → text ≡ outcome_text m.names m.domain.operators s.within s.nodes o → Headline files (search s d p) (outcome_status o) text
+outcome_says : (files : Option Files) (s : Search) (d p : List ℕ) (m : Problem) (o : Outcome) (text : List ℕ) → HoldProblem files d p m → IsOutcome s (plain_problem m) o → text ≡ outcome_text m.names m.domain.operators s.within s.nodes o → Headline files (search s d p) (outcome_status o) text
 outcome_says files s d p m (outcome.Plan plan) text stand right line = (m, stand, prints_plan s m plan text right line)
 outcome_says files s d p m outcome.NoPlan text stand right line = (m, stand, says_none s m text right line)
 outcome_says files s d p m outcome.NoneWithin text stand right line = (m, stand, says_none_within s m text right line)
 outcome_says files s d p m outcome.Spent text stand right line = tt
 
 -- what the headline says of a right answer
-pub search_says : (files : Option Files) (s : Search) (d p : List ℕ) (status : Status) (text : List ℕ) (m : Problem) → HoldInput files (search s d p) (a_problem m) → Searches true s status text m → Headline files (search s d p) status text
+pub search_says : (files : Option Files) (s : Search) (d p : List ℕ) (status : Status) (text : List ℕ) (m : Problem) → HoldProblem files d p m → Searches true s status text m → Headline files (search s d p) status text
 search_says files s d p status text m stand (inl h) =
     subst (λ (x : Status). Headline files (search s d p) x text) (sym h.status_is) (outcome_says files s d p m h.what text stand h.right.0 h.text_is)
 search_says files s d p status text m stand (inr h) = subst (λ (x : Status). Headline files (search s d p) x text) (sym h.3) tt

@@ -24,12 +24,11 @@ use Rattle.tl_run.specs.declared.search.Search.{Search}
 use Rattle.tl_run.specs.declared.status.Status.{Status}
 use Rattle.tl_run.specs.Answers.{Traces, outcome_status}
 use Rattle.tl_run.specs.Commands.{Command, trace}
-use Rattle.tl_run.specs.Inputs.{a_problem}
 use Rattle.tl_run.specs.Laws.{Laws}
+use Rattle.tl_run.specs.Over.{HoldProblem}
 use Rattle.tl_run.specs.Plan.{HasCalmSearch, IsOutcome, IsOutcomeIn, PrintsPlan, SaysNone}
 use Rattle.tl_run.specs.Promises.{Agrees, Headline, IsOwn}
 use Rattle.tl_run.specs.Trace.{EndsWithLast, IsSearchIn, IsTrace, TellsActionsIn, TellsEvents, TellsInTurn}
-use Rattle.tl_run.specs.Turns.{HoldInput}
 use Rattle.tl_run.proofs.Agreement.{IsDone, from_range, gives_way, to_range}
 use Rattle.tl_run.proofs.OneProblem.{SameProblem}
 use Rattle.tl_run.proofs.SameLabels.{same_trace}
@@ -152,7 +151,7 @@ tells_events s m kept events o P text right line says = record {
   says = says;
 }
 
-outcome_says : (files : Option Files) (s : Search) (d p : List ℕ) (m : Problem) (kept : List KeptPair) (events : List Event) (o : Outcome) (text : List ℕ) → HoldInput files (trace s d p) (a_problem m) → IsTrace s (plain_problem m) kept events o → text ≡ lines_of s m kept events o → Headline files (trace s d p) (outcome_status o) text
+outcome_says : (files : Option Files) (s : Search) (d p : List ℕ) (m : Problem) (kept : List KeptPair) (events : List Event) (o : Outcome) (text : List ℕ) → HoldProblem files d p m → IsTrace s (plain_problem m) kept events o → text ≡ lines_of s m kept events o → Headline files (trace s d p) (outcome_status o) text
 outcome_says files s d p m kept events (outcome.Plan plan) text stand right line =
     let said = prints_plan s m plan _ (trace_outcome s (plain_problem m) kept events (outcome.Plan plan) right) refl in
     (m, stand, tells_events s m kept events (outcome.Plan plan) (PrintsPlan s) text right line said)
@@ -166,7 +165,7 @@ outcome_says files s d p m kept events outcome.Spent text stand right line =
     (m, stand, tells_events s m kept events outcome.Spent (λ rest problem. rest ≡ spent_text s.nodes) text right line refl)
 
 -- what the headline says of a right answer
-pub trace_says : (files : Option Files) (s : Search) (d p : List ℕ) (status : Status) (text : List ℕ) (m : Problem) → HoldInput files (trace s d p) (a_problem m) → Traces true s status text m → Headline files (trace s d p) status text
+pub trace_says : (files : Option Files) (s : Search) (d p : List ℕ) (status : Status) (text : List ℕ) (m : Problem) → HoldProblem files d p m → Traces true s status text m → Headline files (trace s d p) status text
 trace_says files s d p status text m stand (inl h) =
     subst (λ (x : Status). Headline files (trace s d p) x text) (sym h.status_is) (outcome_says files s d p m h.kept h.events h.ended text stand h.right h.text_is)
 trace_says files s d p status text m stand (inr h) = subst (λ (x : Status). Headline files (trace s d p) x text) (sym h.3) tt

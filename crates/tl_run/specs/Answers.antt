@@ -35,11 +35,11 @@ use Rattle.tl_run.specs.CheckLoop.{loop_status}
 use Rattle.tl_run.specs.CheckNone.{none_status}
 use Rattle.tl_run.specs.Cheapest.{IsCostOutcome, CheapestEndsPastRange, cost_status}
 use Rattle.tl_run.specs.Commands.{Command, check, search, trace, explain, prove_none, check_none, sample, cheapest, check_loop}
+use Rattle.tl_run.specs.Over.{OverCosts, OverLoop, OverPlan, OverProblem, OverProof, OverSample}
 use Rattle.tl_run.specs.Plan.{IsOutcome, EndsPastRange}
 use Rattle.tl_run.specs.ProveNone.{IsCertificate, LeavesNoProof, unproved_status}
 use Rattle.tl_run.specs.Sample.{CheckEndsPastRange, IsSummary, sample_search, sample_text}
 use Rattle.tl_run.specs.Trace.{IsTrace}
-use Rattle.tl_run.specs.Turns.{OverCosts, OverLoop, OverPlan, OverProblem, OverProof, OverSample}
 
 -- the status with a verdict
 abbrev pub verdict_status : Verdict → Status

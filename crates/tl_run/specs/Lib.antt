@@ -2,6 +2,7 @@ pub mod Words
 pub mod Searches
 pub mod Commands
 pub mod Files
+pub mod Over
 pub mod Inputs
 pub mod SampleTexts
 pub mod Turns

@@ -27,6 +27,7 @@ use Rattle.tl_run.specs.Answers.{Answers, outcome_status}
 use Rattle.tl_run.specs.CheckNone.{SaysProved}
 use Rattle.tl_run.specs.Cheapest.{PrintsCheapestPlan}
 use Rattle.tl_run.specs.Commands.{Command, check, search, trace, explain, prove_none, check_none, sample, cheapest, check_loop}
+use Rattle.tl_run.specs.Over.{OverCosts, OverLoop, OverPlan, OverProblem, OverProof, OverSample}
 use Rattle.tl_run.specs.Plan.{PrintsPlan, SaysNone, HasCalmSearch}
 use Rattle.tl_run.specs.ProveNone.{PrintsProof}
 use Rattle.tl_run.specs.Refusals.{refusal_text}
@@ -34,7 +35,6 @@ use Rattle.tl_run.specs.Sample.{SaysSummary, sample_text}
 use Rattle.tl_run.specs.Sent.{SendsAll, SendsPart, SinkTold}
 use Rattle.tl_run.specs.Trace.{TellsEvents}
 use Rattle.tl_run.specs.Turns.{BeginsFirst, CallsTold, IsRefused}
-use Rattle.tl_run.specs.Turns.{OverCosts, OverLoop, OverPlan, OverProblem, OverProof, OverSample}
 
 -- the file of this number is refused in its turn, by this rule, with this status and line
 abbrev pub Refuses : Option Files → Command → ℕ → Broken → Status → List ℕ → Type 0

@@ -21,8 +21,9 @@ use Rattle.tl_text.specs.Outcomes.{plan_text}
 use Rattle.tl_run.specs.declared.search.Search.{Search}
 use Rattle.tl_run.specs.declared.status.Status.TheVariants.{Yes, No}
 use Rattle.tl_run.specs.Commands.{prove_none, search}
+use Rattle.tl_run.specs.Over.{OverPlan, OverProof}
 use Rattle.tl_run.specs.Promises.{IsAnswer}
-use Rattle.tl_run.specs.Turns.{CallsTold, OverPlan, OverProof}
+use Rattle.tl_run.specs.Turns.{CallsTold}
 
 -- the bytes of two files spell forms that stand for the problem
 pub record AreBytesOf (domain problem : List ℕ) (p : Problem) : Type 0 where

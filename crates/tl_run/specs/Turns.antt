@@ -1,16 +1,11 @@
 -- Files that are read in turn, each after those before it have passed.
 use Rattle.std.specs.Prelude.{◌≡◌, ◌⊎◌, ℕ, ◌+◌, ◌≤◌, Bool, List, [], ◌∷◌, map, take, Option, Some, None}
 use Rattle.tl_outside.specs.Calls.{Call, EndsByFault, begun_names, with_calls}
-use Rattle.tl_cert.specs.declared.proof.Proof.{Proof}
-use Rattle.tl_lasso.specs.declared.plan.LoopPlan.{LoopPlan}
 use Rattle.tl_outside.specs.Told.{Files, IsContent, Lacks}
-use Rattle.tl_syntax.specs.declared.action.Action.{Action}
-use Rattle.tl_syntax.specs.declared.problem.Problem.{Problem}
 use Rattle.tl_run.specs.declared.words.Role.{Role}
-use Rattle.tl_run.specs.declared.words.Role.TheVariants as role
 use Rattle.tl_run.specs.declared.stop.Broken.{Broken}
-use Rattle.tl_run.specs.Commands.{Command, sample, files_of, three_files, two_files}
-use Rattle.tl_run.specs.Inputs.{Input, nothing, a_problem, a_plan, a_proof, some_costs, a_loop, StandsFor, IsBroken}
+use Rattle.tl_run.specs.Commands.{Command, sample, files_of}
+use Rattle.tl_run.specs.Inputs.{Input, nothing, StandsFor, IsBroken}
 use Rattle.tl_run.specs.SampleTexts.{SampleStandsFor, BreaksSample}
 
 -- all files pass, and together with what was read before they stand for this
@@ -29,31 +24,6 @@ Reaches P files (f ∷ fs) k before =
 abbrev pub HoldInput : Option Files → Command → Input → Type 0
 HoldInput files (sample balls) input = SampleStandsFor balls input
 HoldInput files c input = StandTogether files (files_of c) nothing input
-
--- the files with these names pass in their turn, and P holds of what they stand for: of a problem;
--- of a problem and a plan, a proof, the cost of each operator, or a plan with a repeated part; and
--- of the problem of a sample
-abbrev pub OverProblem : Option Files → List ℕ → List ℕ → (Problem → Type 0) → Type 0
-OverProblem files d p P = (m : Problem) × StandTogether files (two_files d p) nothing (a_problem m) × P m
-
-abbrev pub OverPlan : Option Files → List ℕ → List ℕ → List ℕ → (Problem → List Action → Type 0) → Type 0
-OverPlan files d p q P =
-    (m : Problem) × (plan : List Action) × StandTogether files (three_files d p role.Plan q) nothing (a_plan m plan) × P m plan
-
-abbrev pub OverProof : Option Files → List ℕ → List ℕ → List ℕ → (Problem → Proof → Type 0) → Type 0
-OverProof files d p q P =
-    (m : Problem) × (proof : Proof) × StandTogether files (three_files d p role.Proof q) nothing (a_proof m proof) × P m proof
-
-abbrev pub OverCosts : Option Files → List ℕ → List ℕ → List ℕ → (Problem → List ℕ → Type 0) → Type 0
-OverCosts files d p k P =
-    (m : Problem) × (costs : List ℕ) × StandTogether files (three_files d p role.Costs k) nothing (some_costs m costs) × P m costs
-
-abbrev pub OverLoop : Option Files → List ℕ → List ℕ → List ℕ → (Problem → LoopPlan → Type 0) → Type 0
-OverLoop files d p q P =
-    (m : Problem) × (plan : LoopPlan) × StandTogether files (three_files d p role.Loop q) nothing (a_loop m plan) × P m plan
-
-abbrev pub OverSample : ℕ → (Problem → Type 0) → Type 0
-OverSample balls P = (m : Problem) × SampleStandsFor balls (a_problem m) × P m
 
 -- some file of a command is reached, the first one with the number 1, and P holds of it
 abbrev pub ReachesFile : (ℕ → Role → List ℕ → Input → Type 0) → Option Files → Command → Type 0
