@@ -1,160 +1,70 @@
 -- What is held after all files of a command is of the kind that the command goes over.
-use Rattle.std.proofs.Common.{ℕ, List, [], refl, subst}
-use Rattle.std.specs.Prelude.{Option}
+use Rattle.std.proofs.Common.{◌≡◌, List, ℕ, refl, sym, ap, ◌∙◌}
+use Rattle.std.specs.Prelude.{Option, Some, None}
 use Rattle.tl_outside.specs.Told.{Files}
 use Rattle.tl_sexpr.specs.Tree.{FormTrees}
 use Rattle.tl_run.specs.declared.turn.Input.{Input as Held}
 use Rattle.tl_run.specs.declared.turn.Input.TheVariants as held
+use Rattle.tl_run.specs.declared.words.Role.{Role}
 use Rattle.tl_run.specs.declared.words.Role.TheVariants as role
-use Rattle.tl_run.specs.Commands.{Command, check, search, trace, explain, prove_none, check_none, sample, cheapest, check_loop}
-use Rattle.tl_run.specs.Held.{IsHeld}
-use Rattle.tl_run.specs.declared.search.Search.{Search}
-use Rattle.tl_run.specs.Inputs.{Input, a_domain, a_problem, a_plan, a_proof, IsMeant, some_costs, a_loop}
+use Rattle.tl_run.specs.Commands.{Command, check, search, trace, explain, prove_none, check_none, sample, cheapest, check_loop, three_files, two_files}
+use Rattle.tl_run.specs.Held.{IsHeld, last_role}
+use Rattle.tl_run.specs.Inputs.{Input, nothing, a_domain, a_problem, a_plan, a_proof, IsMeant, some_costs, a_loop}
 use Rattle.tl_run.specs.Replies.{FitsCommand}
-use Rattle.tl_run.specs.Sample.{sample_search}
-use Rattle.tl_run.specs.Turns.{HoldInput}
+use Rattle.tl_run.specs.Turns.{HoldInput, StandTogether}
 
-abbrev IsPlan : Input → Type 0
-IsPlan (a_plan p plan) = Unit {0}
-IsPlan x = ⊥
+-- the role of the file that was read last
+abbrev last_read : Input → Option Role
+last_read nothing = None
+last_read (a_domain first) = Some role.Domain
+last_read (a_problem p) = Some role.Problem
+last_read (a_plan p plan) = Some role.Plan
+last_read (a_proof p proof) = Some role.Proof
+last_read (some_costs p costs) = Some role.Costs
+last_read (a_loop p plan) = Some role.Loop
 
-plan_last : (before after : Input) (forms : FormTrees) → IsMeant role.Plan before forms after → IsPlan after
-plan_last (a_problem p) (a_plan q plan) forms h = tt
-plan_last before after forms h = absurd h
+-- what is held is of the role of what was read
+held_role : (h : Held) (x : Input) → IsHeld h x → last_role h ≡ last_read x
+held_role held.Nothing nothing is = refl
+held_role (held.Domain forms) (a_domain first) is = refl
+held_role (held.Problem problem) (a_problem p) is = refl
+held_role (held.Plan problem plan) (a_plan p actions) is = refl
+held_role (held.Proof problem proof) (a_proof p other) is = refl
+held_role (held.Costs problem costs) (some_costs p given) is = refl
+held_role (held.Loop problem plan) (a_loop p other) is = refl
+held_role h x is = absurd is
 
-plan_fits : (d p q : List ℕ) (h : Held) (x : Input) → IsPlan x → IsHeld h x → FitsCommand (check d p q) h
-plan_fits d p q (held.Plan problem plan) x is h = refl
-plan_fits d p q held.Nothing (a_plan problem plan) is h = absurd h
-plan_fits d p q (held.Domain forms) (a_plan problem plan) is h = absurd h
-plan_fits d p q (held.Problem other) (a_plan problem plan) is h = absurd h
-plan_fits d p q (held.Proof other proof) (a_plan problem plan) is h = absurd h
-plan_fits d p q (held.Costs other costs) (a_plan problem plan) is h = absurd h
-plan_fits d p q (held.Loop other parts) (a_plan problem plan) is h = absurd h
-plan_fits d p q h x is k = absurd is
+-- a file of a role is the last one with what it stands for
+meant_role : (r : Role) (before after : Input) (forms : FormTrees) → IsMeant r before forms after → last_read after ≡ Some r
+meant_role role.Domain nothing (a_domain first) forms h = refl
+meant_role role.Problem (a_domain first) (a_problem p) forms h = refl
+meant_role role.Plan (a_problem p) (a_plan q plan) forms h = refl
+meant_role role.Proof (a_problem p) (a_proof q proof) forms h = refl
+meant_role role.Costs (a_problem p) (some_costs q costs) forms h = refl
+meant_role role.Loop (a_problem p) (a_loop q plan) forms h = refl
+meant_role r before after forms h = absurd h
 
-abbrev IsProof : Input → Type 0
-IsProof (a_proof p proof) = Unit {0}
-IsProof x = ⊥
-
-proof_last : (before after : Input) (forms : FormTrees) → IsMeant role.Proof before forms after → IsProof after
-proof_last (a_problem p) (a_proof q proof) forms h = tt
-proof_last before after forms h = absurd h
-
-proof_fits : (d p q : List ℕ) (h : Held) (x : Input) → IsProof x → IsHeld h x → FitsCommand (check_none d p q) h
-proof_fits d p q (held.Proof problem proof) x is h = refl
-proof_fits d p q held.Nothing (a_proof problem proof) is h = absurd h
-proof_fits d p q (held.Domain forms) (a_proof problem proof) is h = absurd h
-proof_fits d p q (held.Problem other) (a_proof problem proof) is h = absurd h
-proof_fits d p q (held.Plan other plan) (a_proof problem proof) is h = absurd h
-proof_fits d p q (held.Costs other costs) (a_proof problem proof) is h = absurd h
-proof_fits d p q (held.Loop other parts) (a_proof problem proof) is h = absurd h
-proof_fits d p q h x is k = absurd is
-
-explain_fits : (d p q : List ℕ) (h : Held) (x : Input) → IsPlan x → IsHeld h x → FitsCommand (explain d p q) h
-explain_fits d p q h x is k = plan_fits d p q h x is k
-
-abbrev IsProblem : Input → Type 0
-IsProblem (a_problem p) = Unit {0}
-IsProblem x = ⊥
-
-problem_last : (before after : Input) (forms : FormTrees) → IsMeant role.Problem before forms after → IsProblem after
-problem_last (a_domain first) (a_problem p) forms h = tt
-problem_last before after forms h = absurd h
-
-problem_fits : (s : Search) (d p : List ℕ) (h : Held) (x : Input) → IsProblem x → IsHeld h x → FitsCommand (search s d p) h
-problem_fits s d p (held.Problem problem) x is h = refl
-problem_fits s d p held.Nothing (a_problem problem) is h = absurd h
-problem_fits s d p (held.Domain forms) (a_problem problem) is h = absurd h
-problem_fits s d p (held.Plan other plan) (a_problem problem) is h = absurd h
-problem_fits s d p (held.Proof other proof) (a_problem problem) is h = absurd h
-problem_fits s d p (held.Costs other costs) (a_problem problem) is h = absurd h
-problem_fits s d p (held.Loop other parts) (a_problem problem) is h = absurd h
-problem_fits s d p h x is k = absurd is
-
-search_fits : (files : Option Files) (s : Search) (d p : List ℕ) (h : Held) (x : Input) → HoldInput files (search s d p) x → IsHeld h x → FitsCommand (search s d p) h
-search_fits files s d p h x stand is =
+two_fit : (files : Option Files) (d p : List ℕ) (h : Held) (x : Input) → StandTogether files (two_files d p) nothing x → IsHeld h x → last_role h ≡ Some role.Problem
+two_fit files d p h x stand is =
     let second = stand.4 in
     let stands = second.3 in
-    let e = second.4 in
-    problem_fits s d p h x (subst IsProblem e (problem_last stand.1 second.1 stands.forms stands.meant)) is
+    held_role h x is ∙ ap last_read (sym second.4) ∙ meant_role role.Problem stand.1 second.1 stands.forms stands.meant
 
-abbrev AreCosts : Input → Type 0
-AreCosts (some_costs p costs) = Unit {0}
-AreCosts x = ⊥
-
-costs_last : (before after : Input) (forms : FormTrees) → IsMeant role.Costs before forms after → AreCosts after
-costs_last (a_problem p) (some_costs q costs) forms h = tt
-costs_last before after forms h = absurd h
-
-costs_fit : (b : ℕ) (d p k : List ℕ) (h : Held) (x : Input) → AreCosts x → IsHeld h x → FitsCommand (cheapest b d p k) h
-costs_fit b d p k (held.Costs problem costs) x is h = refl
-costs_fit b d p k held.Nothing (some_costs problem costs) is h = absurd h
-costs_fit b d p k (held.Domain forms) (some_costs problem costs) is h = absurd h
-costs_fit b d p k (held.Problem other) (some_costs problem costs) is h = absurd h
-costs_fit b d p k (held.Plan other plan) (some_costs problem costs) is h = absurd h
-costs_fit b d p k (held.Proof other proof) (some_costs problem costs) is h = absurd h
-costs_fit b d p k (held.Loop other parts) (some_costs problem costs) is h = absurd h
-costs_fit b d p k h x is e = absurd is
-
-cheapest_fits : (files : Option Files) (b : ℕ) (d p k : List ℕ) (h : Held) (x : Input) → HoldInput files (cheapest b d p k) x → IsHeld h x → FitsCommand (cheapest b d p k) h
-cheapest_fits files b d p k h x stand is =
+three_fit : (files : Option Files) (d p q : List ℕ) (r : Role) (h : Held) (x : Input) → StandTogether files (three_files d p r q) nothing x → IsHeld h x → last_role h ≡ Some r
+three_fit files d p q r h x stand is =
     let second = stand.4 in
     let third = second.4 in
     let stands = third.3 in
-    let e = third.4 in
-    costs_fit b d p k h x (subst AreCosts e (costs_last second.1 third.1 stands.forms stands.meant)) is
-
-abbrev IsLoop : Input → Type 0
-IsLoop (a_loop p plan) = Unit {0}
-IsLoop x = ⊥
-
-loop_last : (before after : Input) (forms : FormTrees) → IsMeant role.Loop before forms after → IsLoop after
-loop_last (a_problem p) (a_loop q plan) forms h = tt
-loop_last before after forms h = absurd h
-
-loop_fits : (d p q : List ℕ) (h : Held) (x : Input) → IsLoop x → IsHeld h x → FitsCommand (check_loop d p q) h
-loop_fits d p q (held.Loop problem plan) x is h = refl
-loop_fits d p q held.Nothing (a_loop problem plan) is h = absurd h
-loop_fits d p q (held.Domain forms) (a_loop problem plan) is h = absurd h
-loop_fits d p q (held.Problem other) (a_loop problem plan) is h = absurd h
-loop_fits d p q (held.Plan other actions) (a_loop problem plan) is h = absurd h
-loop_fits d p q (held.Proof other proof) (a_loop problem plan) is h = absurd h
-loop_fits d p q (held.Costs other costs) (a_loop problem plan) is h = absurd h
-loop_fits d p q h x is e = absurd is
-
-check_loop_fits : (files : Option Files) (d p q : List ℕ) (h : Held) (x : Input) → HoldInput files (check_loop d p q) x → IsHeld h x → FitsCommand (check_loop d p q) h
-check_loop_fits files d p q h x stand is =
-    let second = stand.4 in
-    let third = second.4 in
-    let stands = third.3 in
-    let e = third.4 in
-    loop_fits d p q h x (subst IsLoop e (loop_last second.1 third.1 stands.forms stands.meant)) is
+    held_role h x is ∙ ap last_read (sym third.4) ∙ meant_role r second.1 third.1 stands.forms stands.meant
 
 -- one line for each command
 pub fits : (files : Option Files) (c : Command) (h : Held) (x : Input) → HoldInput files c x → IsHeld h x → FitsCommand c h
-fits files (check d p q) h x stand is =
-    let second = stand.4 in
-    let third = second.4 in
-    let stands = third.3 in
-    let e = third.4 in
-    plan_fits d p q h x (subst IsPlan e (plan_last second.1 third.1 stands.forms stands.meant)) is
-fits files (search s d p) h x stand is = search_fits files s d p h x stand is
-fits files (trace s d p) h x stand is = search_fits files s d p h x stand is
-fits files (explain d p q) h x stand is =
-    let second = stand.4 in
-    let third = second.4 in
-    let stands = third.3 in
-    let e = third.4 in
-    explain_fits d p q h x (subst IsPlan e (plan_last second.1 third.1 stands.forms stands.meant)) is
-fits files (prove_none s d p) h x stand is = search_fits files s d p h x stand is
-fits files (check_none d p q) h x stand is =
-    let second = stand.4 in
-    let third = second.4 in
-    let stands = third.3 in
-    let e = third.4 in
-    proof_fits d p q h x (subst IsProof e (proof_last second.1 third.1 stands.forms stands.meant)) is
-fits files (sample balls) h x stand is =
-    let stands = stand.2 in
-    problem_fits (sample_search balls) [] [] h x (problem_last stand.0 x stands.forms stands.meant) is
-fits files (cheapest b d p k) h x stand is = cheapest_fits files b d p k h x stand is
-fits files (check_loop d p q) h x stand is = check_loop_fits files d p q h x stand is
+fits files (check d p q) h x stand is = three_fit files d p q role.Plan h x stand is
+fits files (search s d p) h x stand is = two_fit files d p h x stand is
+fits files (trace s d p) h x stand is = two_fit files d p h x stand is
+fits files (explain d p q) h x stand is = three_fit files d p q role.Plan h x stand is
+fits files (prove_none s d p) h x stand is = two_fit files d p h x stand is
+fits files (check_none d p q) h x stand is = three_fit files d p q role.Proof h x stand is
+fits files (sample balls) h x stand is = let stands = stand.2 in held_role h x is ∙ meant_role role.Problem stand.0 x stands.forms stands.meant
+fits files (cheapest b d p k) h x stand is = three_fit files d p k role.Costs h x stand is
+fits files (check_loop d p q) h x stand is = three_fit files d p q role.Loop h x stand is
