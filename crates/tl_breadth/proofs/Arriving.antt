@@ -131,7 +131,7 @@ module _ (p : PlainProblem) (n b : ℕ) (old : List KeptPair) (at : ℕ) (a : Ac
 
   -- the search's fault has its cause where the space's fault has
   pub child-fault : (t : HasTurn p n b old at a) (s : SpaceFault) (f : SearchFault) → ((x : KeptPair) → slice_get old at ≡ Some x → TellsChild x.path a s f)
-    → ((x : KeptPair) → slice_get old at ≡ Some x → IsCausedByChild p x.node a s) → IsBreadthFirstFault p n f
+      → ((x : KeptPair) → slice_get old at ≡ Some x → IsCausedByChild p x.node a s) → IsBreadthFirstFault p n f
   child-fault t s fault.NoMemory is h = tt
   child-fault t (space.RangeHere note) (fault.Range path o) is h =
       subst (λ (m : RangeNote). IsBreadthFirstFault p n (fault.Range path m)) (sym (is t.pair t.is_pair).1) (range-here t path note (λ x e. (is x e).0) h)

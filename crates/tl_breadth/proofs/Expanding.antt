@@ -63,7 +63,7 @@ module _ (p : PlainProblem) (n b : ℕ) (old : List KeptPair) (at : ℕ) (r : Is
 
   -- the search's fault has its cause where the space's fault has
   pub expand-fault : (s : SpaceFault) (f : SearchFault) → ((x : KeptPair) → slice_get old at ≡ Some x → TellsPair x.path s f)
-    → ((x : KeptPair) → slice_get old at ≡ Some x → IsCausedByActions p x.node s) → IsBreadthFirstFault p n f
+      → ((x : KeptPair) → slice_get old at ≡ Some x → IsCausedByActions p x.node s) → IsBreadthFirstFault p n f
   expand-fault s fault.NoMemory is h = tt
   expand-fault (space.RangeHere note) (fault.Range path o) is h =
       subst (λ (m : RangeNote). IsBreadthFirstFault p n (fault.Range path m)) (sym (is r.pair r.is_pair).1) (expand-range path note (λ x e. (is x e).0) h)

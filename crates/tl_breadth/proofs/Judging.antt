@@ -64,7 +64,7 @@ module _ (p : PlainProblem) (n b : ℕ) (kept : List KeptPair) (k : ℕ) (w : Aw
 
   -- the search's fault has its cause where the space's fault has
   pub judged-fault : (s : SpaceFault) (f : SearchFault) → ((x : KeptPair) → slice_get kept k ≡ Some x → TellsPair x.path s f)
-    → ((x : KeptPair) → slice_get kept k ≡ Some x → IsCausedByAcceptance p x.node s) → IsBreadthFirstFault p n f
+      → ((x : KeptPair) → slice_get kept k ≡ Some x → IsCausedByAcceptance p x.node s) → IsBreadthFirstFault p n f
   judged-fault s fault.NoMemory is h = tt
   judged-fault (space.RangeHere note) (fault.Range path o) is h =
       subst (λ (m : RangeNote). IsBreadthFirstFault p n (fault.Range path m)) (sym (is the_last.0 the_last.1).1) (judged-range path (λ x e. (is x e).0) note h)

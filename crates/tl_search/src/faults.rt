@@ -12,12 +12,7 @@ use tl_eval::RangeNote;
 use tl_terms::{Action, Actions, NoMemory};
 
 /// The fault of an operation past range in the world of a pair.
-fn fault_at<S: Pairs>(
-    alloc: Global,
-    space: &S,
-    at: usize,
-    note: RangeNote,
-) -> SearchFault
+fn fault_at<S: Pairs>(alloc: Global, space: &S, at: usize, note: RangeNote) -> SearchFault
     requires { at < length (S.kept space.now) }
     ensures fault { ForPair (S.kept space.now) at (λ x. IsFaultAfter x.path note result) }
     ensures named { FaultIsNamed (S.task space.now) result }
@@ -84,12 +79,7 @@ pub fn root_fault(alloc: Global, fault: SpaceFault) -> SearchFault
 }
 
 /// The fault of a call of the space that looks at a pair.
-pub fn pair_fault<S: Pairs>(
-    alloc: Global,
-    space: &S,
-    at: usize,
-    fault: SpaceFault,
-) -> SearchFault
+pub fn pair_fault<S: Pairs>(alloc: Global, space: &S, at: usize, fault: SpaceFault) -> SearchFault
     requires at { at < length (S.kept space.now) }
     requires here { IsOfPair fault }
     ensures fault { ForPair (S.kept space.now) at (λ x. TellsPair x.path fault result) }
