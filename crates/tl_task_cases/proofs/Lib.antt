@@ -1,2 +1,1 @@
 pub mod FirstOperator
-pub mod FormTrees

@@ -1,5 +1,5 @@
-//! Worked cases of formulas, of tasks and of what is read over them, by the texts of domains and
-//! problems. There is nothing in it but tests; `tl_tables` says how a row is written.
+//! Worked cases of tasks and of what is read over them, by the texts of domains and problems.
+//! There is nothing in it but tests; `tl_tables` says how a row is written.
 #![tactic(auto)]
 
 #[cfg(test)]
@@ -8,8 +8,6 @@ mod answers;
 mod checks;
 #[cfg(test)]
 mod labels;
-#[cfg(test)]
-mod nodes;
 #[cfg(test)]
 mod paths;
 #[cfg(test)]
@@ -20,7 +18,5 @@ mod proof_texts;
 mod stop;
 #[cfg(test)]
 mod tasks;
-#[cfg(test)]
-mod trees;
 #[cfg(test)]
 mod tuples;

@@ -4,8 +4,8 @@ ghost use Rattle.std.specs.Prelude.{◌≡◌};
 ghost use Rattle.tl_nodes.specs.Fits.{all_below};
 
 use crate::checks::{is_number, is_true};
+use crate::domains::filled_domain;
 use crate::stop::Stop;
-use crate::tasks::filled_domain;
 use std::alloc::Global;
 use std::process::Abort;
 use tl_nodes::{Node, Nodes};

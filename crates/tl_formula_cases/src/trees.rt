@@ -4,8 +4,8 @@
 ghost use Rattle.std.specs.Prelude.{◌≡◌, length};
 
 use crate::checks::{is_number, is_true};
+use crate::domains::filled_domain;
 use crate::stop::Stop;
-use crate::tasks::filled_domain;
 use std::alloc::Global;
 use std::process::Abort;
 use tl_syntax::{
