@@ -12,7 +12,8 @@ use std::sync::ledger::Ledger;
 use tl_search::{
     Arrival, Events, Outcome, Pairs, SearchFault, child_fault, pair_fault, report_arrival,
 };
-use tl_terms::{Action, Steps};
+use tl_syntax::Action;
+use tl_terms::Steps;
 
 impl BreadthFirst {
     /// All actions of the pair whose turn it is are tried.

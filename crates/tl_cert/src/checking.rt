@@ -7,7 +7,7 @@ ghost use Rattle.tl_cert.specs.Links.{ListsRoot};
 use crate::known::NodeActions;
 use std::alloc::{AllocError, Global};
 use tl_search::{Arrival, Pairs, SearchFault, root_fault};
-use tl_terms::Numbers32;
+use tl_syntax::Numbers32;
 
 /// What is known while a proof is checked, beside the nodes that the space keeps. Until all links
 /// are listed these are the listed ones, under the same numbers.

@@ -9,7 +9,8 @@ use crate::known::listed;
 use crate::verdict::NoneVerdict;
 use std::sync::ledger::Ledger;
 use tl_search::{Arrival, Pairs, SearchFault, child_fault, pair_fault};
-use tl_terms::{Action, Steps};
+use tl_syntax::Action;
+use tl_terms::Steps;
 
 impl Checking {
     /// Whether the second node is no farther than one action after the first, where there is a

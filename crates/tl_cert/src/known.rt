@@ -7,7 +7,7 @@ ghost use Rattle.tl_cert.specs.Checking.{AreActionsAt, AreKnownActions, IsListin
 
 use std::alloc::Global;
 use tl_search::{Pairs, SearchFault, pair_fault};
-use tl_terms::{Action, Actions};
+use tl_syntax::{Action, Actions};
 
 /// The executable actions of a node, which stay known while links that start from it come one after
 /// another.

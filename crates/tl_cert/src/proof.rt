@@ -1,5 +1,5 @@
 // Proofs that there is no plan.
-use tl_terms::{Action, Items};
+use tl_syntax::{Action, Items};
 
 /// A search node that a proof lists: the one after an action of a node that is listed before it.
 #[derive(Drop)]

@@ -7,7 +7,7 @@ ghost use Rattle.tl_cert.specs.Reports.{bound_of, links_of, IsNoneReport, HasSma
 use crate::proof::{Link, Links, Proof};
 use std::alloc::Global;
 use tl_search::{Event, Outcome, Pairs, Report};
-use tl_terms::{Action, NoMemory};
+use tl_syntax::{Action, NoMemory};
 
 /// Adds the link by the action of the pair of this number.
 fn add_link(alloc: Global, links: &mut Links, from: usize, action: &Action) -> Result<(), NoMemory>

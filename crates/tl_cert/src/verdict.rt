@@ -1,5 +1,5 @@
 // What is said of a proof.
-use tl_terms::Action;
+use tl_syntax::Action;
 
 /// The verdict on a proof that there is no plan.
 #[derive(Drop)]

@@ -2,7 +2,7 @@
 ghost use Rattle.std.specs.Prelude.{◌≡◌};
 ghost use Rattle.tl_cost.specs.PlanCosts.{action_cost};
 
-use tl_terms::{Action, Items};
+use tl_syntax::{Action, Items};
 
 /// The cost of each operator, by its position in the domain's list.
 pub type Costs = Items<u32>;

@@ -5,7 +5,7 @@ ghost use Rattle.tl_cost.specs.declared.open_list.Entry.{Entry};
 
 use std::alloc::Global;
 use std::collections::BTreeSet;
-use tl_terms::NoMemory;
+use tl_syntax::NoMemory;
 
 /// A kept pair that is still to be settled. Entries are ordered by cost, then by length, and then
 /// by number.

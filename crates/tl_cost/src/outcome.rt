@@ -1,5 +1,5 @@
 // What a search for a cheapest plan answers.
-use tl_terms::Actions;
+use tl_syntax::Actions;
 
 /// What a search for a cheapest plan answers within a budget of pairs.
 #[derive(Drop)]

@@ -15,7 +15,8 @@ use std::alloc::Global;
 use std::sync::ledger::Ledger;
 use tl_eval::RangeNote;
 use tl_search::{Arrival, Pairs, SearchFault, SpaceFault};
-use tl_terms::{Action, Actions, NoMemory, Steps};
+use tl_syntax::{Action, Actions, NoMemory};
+use tl_terms::Steps;
 
 /// What a search is given, and does not change.
 #[derive(Drop)]

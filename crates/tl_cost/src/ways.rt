@@ -6,7 +6,7 @@ ghost use Rattle.tl_cost.specs.Ways.{entry_of, is_listed, listed_len, Adds, AreL
 
 use crate::open_list::{Entry, OpenList};
 use std::alloc::Global;
-use tl_terms::{Action, Actions, NoMemory};
+use tl_syntax::{Action, Actions, NoMemory};
 
 /// The last step of a way.
 #[derive(Drop)]

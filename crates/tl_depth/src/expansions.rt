@@ -5,7 +5,7 @@ ghost use Rattle.tl_depth.specs.Expansions.{StayExpansions, as_seen, AddsAt, Kno
 use crate::packed::PackedActions;
 use std::alloc::Global;
 use tl_search::Arrival;
-use tl_terms::NoMemory;
+use tl_syntax::NoMemory;
 
 /// What is remembered of a pair.
 #[derive(Drop)]

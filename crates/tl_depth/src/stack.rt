@@ -15,7 +15,7 @@ use crate::level::Level;
 use std::alloc::Global;
 use tl_eval::RangeNote;
 use tl_search::{Arrival, Events, SearchFault, SpaceFault, report_arrival};
-use tl_terms::{Actions, NoMemory};
+use tl_syntax::{Actions, NoMemory};
 
 /// What the search has beside its space.
 #[derive(Drop)]

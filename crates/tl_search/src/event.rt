@@ -1,5 +1,5 @@
 // What a search reports.
-use tl_terms::{Action, Items};
+use tl_syntax::{Action, Items};
 
 /// One arrival of a search: the number of the pair that it came from, the action, and the number of
 /// the pair that was met.

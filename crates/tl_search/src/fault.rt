@@ -4,7 +4,7 @@ ghost use Rattle.tl_search.specs.declared.fault.SearchFault.TheVariants as fault
 
 use std::alloc::AllocError;
 use tl_eval::RangeNote;
-use tl_terms::{Actions, NoMemory};
+use tl_syntax::{Actions, NoMemory};
 
 /// Why a search space gives no answer. What it keeps is as before the call.
 #[derive(Clone, Copy, PartialEq, Eq)]

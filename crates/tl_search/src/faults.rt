@@ -9,7 +9,7 @@ use crate::fault::{SearchFault, SpaceFault};
 use crate::pairs::Pairs;
 use std::alloc::Global;
 use tl_eval::RangeNote;
-use tl_terms::{Action, Actions, NoMemory};
+use tl_syntax::{Action, Actions, NoMemory};
 
 /// The fault of an operation past range in the world of a pair.
 fn fault_at<S: Pairs>(alloc: Global, space: &S, at: usize, note: RangeNote) -> SearchFault

@@ -1,6 +1,6 @@
 // What a search answers.
 use crate::Events;
-use tl_terms::Actions;
+use tl_syntax::Actions;
 
 /// What a search within a bound on the number of actions and a budget of pairs answers.
 #[derive(Drop)]

@@ -11,7 +11,8 @@ ghost use Rattle.tl_search.specs.Calls.{IsExecutableAt, RootArrives, ChildArrive
 use crate::{Arrival, SpaceFault};
 use std::alloc::Global;
 use std::sync::ledger::Ledger;
-use tl_terms::{Action, Actions, NoMemory, Steps};
+use tl_syntax::{Action, Actions, NoMemory};
+use tl_terms::Steps;
 
 /// A search space as a search sees it: pairs of a world and a residual (Bacchus and Kabanza 2000),
 /// each kept once under a number, with the path by which it was met first. No call changes the task

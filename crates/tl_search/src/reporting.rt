@@ -4,7 +4,7 @@ ghost use Rattle.tl_search.specs.Events.{event_of, events_after};
 
 use crate::{Arrival, Event, Events};
 use std::alloc::{AllocError, Global};
-use tl_terms::{Action, NoMemory};
+use tl_syntax::{Action, NoMemory};
 
 /// Adds the event of what came of an action from the pair `at`, where events are watched. It fails
 /// for want of memory alone, and takes none where they are not.

@@ -1,7 +1,7 @@
 // Pairs by numbers.
 
 use tl_search::Arrival;
-use tl_terms::Action;
+use tl_syntax::Action;
 
 /// A world and a formula, each by its number: a pair, or an arrival in a world with the formula
 /// that comes in.

@@ -4,7 +4,8 @@ use crate::Space;
 use std::alloc::Global;
 use std::sync::ledger::Ledger;
 use tl_search::{Arrival, Pairs, SpaceFault};
-use tl_terms::{Action, Actions, NoMemory, Steps};
+use tl_syntax::{Action, Actions, NoMemory};
+use tl_terms::Steps;
 
 impl Pairs for Space {
     ghost use Rattle.tl_space.specs.Spaces.{task_of, problem_of, kept_of};

@@ -32,7 +32,7 @@ use tl_eval::Env;
 use tl_known::Worlds;
 use tl_nodes::Nodes;
 use tl_progress::{PartPlaces, Residuals};
-use tl_terms::NoMemory;
+use tl_syntax::NoMemory;
 use tl_world::{Task, Unmet};
 
 /// Pairs of a world and a residual, each kept once under a number, with the path by which it was

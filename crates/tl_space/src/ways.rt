@@ -9,7 +9,7 @@ use crate::way::Way;
 use indexmap::IndexSet;
 use std::alloc::Global;
 use std::marker::Model;
-use tl_terms::{Action, NoMemory};
+use tl_syntax::{Action, NoMemory};
 
 /// How pairs were met first, one pair after another. Contracts see the list of it.
 ///

@@ -1,5 +1,5 @@
 //! What planning problems are written in: names, lists, and trees. What all of it means stands in
-//! the crate above, `tl_terms`, which gives these types again.
+//! the crate above, `tl_terms`.
 #![tactic(auto)]
 
 mod action;

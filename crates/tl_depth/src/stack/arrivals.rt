@@ -16,7 +16,7 @@ use crate::packed::PackedActions;
 use crate::stack::{DepthFirst, levels_fault, path};
 use std::alloc::Global;
 use tl_search::{Arrival, Outcome, Pairs, SearchFault};
-use tl_terms::NoMemory;
+use tl_syntax::NoMemory;
 
 impl DepthFirst {
     /// What comes of an arrival.

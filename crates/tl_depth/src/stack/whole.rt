@@ -17,7 +17,8 @@ use crate::stack::DepthFirst;
 use std::alloc::Global;
 use std::sync::ledger::Ledger;
 use tl_search::{Arrival, Event, Outcome, Pairs, SearchFault, report_root, root_fault};
-use tl_terms::{Actions, Steps};
+use tl_syntax::Actions;
+use tl_terms::Steps;
 
 /// Whether some pair was met with no remaining action, and never with any.
 fn is_cut(most: &[u32]) -> bool

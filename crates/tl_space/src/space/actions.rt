@@ -6,7 +6,7 @@ ghost use Rattle.tl_space.specs.Spaces.{task_of, problem_of, kept_of, Grows};
 use super::Space;
 use tl_action::ActFault;
 use tl_search::SpaceFault;
-use tl_terms::Actions;
+use tl_syntax::Actions;
 
 impl Space {
     /// The executable actions of the pair, each once, in action order. Nothing that is kept

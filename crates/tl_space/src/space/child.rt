@@ -13,7 +13,8 @@ use std::sync::ledger::Ledger;
 use tl_action::{ActFault, Here};
 use tl_progress::{ProgressFault, is_broken_by};
 use tl_search::{Arrival, SpaceFault};
-use tl_terms::{Action, NoMemory, Steps};
+use tl_syntax::{Action, NoMemory};
+use tl_terms::Steps;
 
 impl Space {
     /// The pair after an executable action of the pair `at` arrives: pruned exactly where its

@@ -7,7 +7,7 @@ ghost use Rattle.tl_space.specs.Spaces.{name_count, kept_of, Grows};
 use super::Space;
 use crate::numbers::{Met, Numbers};
 use tl_search::Arrival;
-use tl_terms::NoMemory;
+use tl_syntax::NoMemory;
 
 impl Space {
     /// Keeps the new pair of these numbers, met first in this way, and remembers its arrival. The

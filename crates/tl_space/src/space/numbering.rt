@@ -18,7 +18,7 @@ use tl_action::Changes;
 use tl_known::Worlds;
 use tl_nodes::Nodes;
 use tl_progress::{Incoming, ProgressFault, progress_kept};
-use tl_terms::NoMemory;
+use tl_syntax::NoMemory;
 use tl_world::{Task, World};
 
 /// The first world again, which shares its tables.

@@ -5,7 +5,7 @@ ghost use Rattle.tl_space.specs.Spaces.{task_of, kept_of};
 
 use super::Space;
 use std::alloc::Global;
-use tl_terms::{Action, Actions, NoMemory};
+use tl_syntax::{Action, Actions, NoMemory};
 
 impl Space {
     /// The path by which the pair was met first: an open path with that pair. It fails for want of

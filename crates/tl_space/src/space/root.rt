@@ -11,7 +11,7 @@ use super::Space;
 use crate::numbers::{Found, Met, Numbers};
 use tl_progress::ProgressFault;
 use tl_search::{Arrival, SpaceFault};
-use tl_terms::NoMemory;
+use tl_syntax::NoMemory;
 
 impl Space {
     /// The pair of the empty path arrives: the initial world, with the control formula progressed
