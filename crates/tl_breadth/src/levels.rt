@@ -64,7 +64,7 @@ impl BreadthFirst {
         match space.root() {
             Ok(Arrival::Fresh(k)) => {
                 report_root(events, self.watch, Event::RootKept)?;
-                match self.judged(space, k)? {
+                match self.outcome_at(space, k)? {
                     Some(outcome) => return Ok(outcome),
                     None => {}
                 }

@@ -88,7 +88,7 @@ impl BreadthFirst {
         match space.child(at, a, steps) {
             Ok(Arrival::Fresh(k)) => {
                 report_arrival(self.alloc, events, self.watch, at, a, Arrival::Fresh(k))?;
-                self.judged(space, k)
+                self.outcome_at(space, k)
             }
             Ok(Arrival::Seen(k)) => {
                 report_arrival(self.alloc, events, self.watch, at, a, Arrival::Seen(k))?;
@@ -104,7 +104,11 @@ impl BreadthFirst {
 
     /// The last pair that was kept ends the search where there are too many or where it is
     /// accepted.
-    pub fn judged<S: Pairs>(&self, space: &mut S, k: usize) -> Result<Option<Outcome>, SearchFault>
+    pub fn outcome_at<S: Pairs>(
+        &self,
+        space: &mut S,
+        k: usize,
+    ) -> Result<Option<Outcome>, SearchFault>
         requires { AwaitsJudgementIn self.now (S.problem space.old) (S.kept space.old) k }
         ensures task { S.task space.new ≡ S.task space.old }
         ensures problem { S.problem space.new ≡ S.problem space.old }

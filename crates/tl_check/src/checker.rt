@@ -38,7 +38,12 @@ pub(crate) fn obeys(along: &Along) -> Result<bool, Unlabelled>
 }
 
 /// The verdict on a plan all of whose actions execute, by what is kept of its states.
-fn judged(alloc: Global, task: &Task, plan: &[Action], trail: Trail) -> Result<Verdict, Unlabelled>
+fn verdict_of(
+    alloc: Global,
+    task: &Task,
+    plan: &[Action],
+    trail: Trail,
+) -> Result<Verdict, Unlabelled>
     requires short { length plan.now < 2 ^ 32 }
     requires executes { HasStates (plain_problem task.now.problem) plan.now }
     requires trail { IsTrailOf (plain_problem task.now.problem) plan.now trail }
@@ -94,7 +99,7 @@ fn verdict_by(follow: &Follow, plan: &[Action]) -> Result<Verdict, Unlabelled>
 {
     match followed_by::<Brand>(follow, plan, Blank::new(1))? {
         Followed::Stopped(k) => Ok(Verdict::NotExecutable(k)),
-        Followed::Ended(trail) => judged(follow.alloc, follow.task, plan, trail),
+        Followed::Ended(trail) => verdict_of(follow.alloc, follow.task, plan, trail),
     }
 }
 

@@ -140,7 +140,12 @@ impl Expansions {
 
     /// What came of the action of the pair of the number is known from now on, where that of each
     /// action before it is known.
-    pub fn learn(&mut self, at: usize, tried: usize, arrival: Arrival) -> Result<(), NoMemory>
+    pub fn remember_arrival(
+        &mut self,
+        at: usize,
+        tried: usize,
+        arrival: Arrival,
+    ) -> Result<(), NoMemory>
         ensures { OnOk result (GainsArrival self.old self.new at tried arrival) }
     {
         if at < self.entries.as_slice().len() {

@@ -113,14 +113,15 @@ impl DepthFirst {
     }
 
     /// What came of the top level's next action is remembered.
-    pub fn learn(&mut self, arrival: Arrival) -> Result<(), NoMemory>
+    pub fn remember_arrival(&mut self, arrival: Arrival) -> Result<(), NoMemory>
         requires { IsStepped self.old.stack.items }
         ensures remembered { OnOk result (LearnsTop self.old.stack.items self.old.expansions self.new.expansions arrival) }
         ensures rest { self.new ≡ record self.old { expansions = self.new.expansions } }
     {
         let top = self.stack.as_slice().len() - 1;
         let level = &self.stack[top];
-        self.expansions.learn(level.at, level.tried, arrival)
+        self.expansions
+            .remember_arrival(level.at, level.tried, arrival)
     }
 
     /// Reports what came of the top level's next action, where events are wanted.

@@ -67,7 +67,7 @@ fn are_same(left: Option<Value>, right: Option<Value>) -> bool
 }
 
 /// Whether the comparison is true of the two sides. It takes no memory.
-fn stand(cmp: Cmp, left: Option<Value>, right: Option<Value>) -> bool
+fn compare_values(cmp: Cmp, left: Option<Value>, right: Option<Value>) -> bool
     ensures { result ≡ compared cmp left right }
 {
     match (left, right) {
@@ -185,7 +185,7 @@ fn sides_compared(
         Ok(first) => {
             if goes_on(cmp, first) {
                 match value_of_term(w, frame, right) {
-                    Ok(second) => Ok(stand(cmp, first, second)),
+                    Ok(second) => Ok(compare_values(cmp, first, second)),
                     Err(note) => Err(note),
                 }
             } else {
@@ -208,7 +208,7 @@ pub(crate) fn plain_comparison(
     ensures { IfSome result (IsPlainComparison frame.now cmp left.now right.now) }
 {
     match (plain_value(frame, left), plain_value(frame, right)) {
-        (Some(first), Some(second)) => Some(stand(cmp, first, second)),
+        (Some(first), Some(second)) => Some(compare_values(cmp, first, second)),
         _ => None,
     }
 }

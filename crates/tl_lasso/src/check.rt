@@ -44,7 +44,7 @@ fn are_same(left: &World, right: &World) -> bool
 }
 
 /// The verdict on a plan all of whose actions execute, by what is kept of its states.
-fn judged(
+fn verdict_of(
     alloc: Global,
     task: &Task,
     round: &Round,
@@ -99,7 +99,7 @@ pub fn check_loop(
                 plan: plan.as_slice(),
                 again: stem.len(),
             };
-            judged(alloc, task, &round, trail)
+            verdict_of(alloc, task, &round, trail)
         }
     }
 }

@@ -27,7 +27,7 @@ use tl_world::{Task, World};
 
 // Works out what has to hold next for a number's tree, or its truth where it has no temporal word,
 // and keeps it. The tree has no free variable.
-fn learn(
+fn work_out(
     here: &Here,
     nodes: &mut Nodes,
     env: &mut Env,
@@ -92,7 +92,7 @@ fn ordered_residual(
     let mut order = reached(here.alloc, nodes, id, false)?;
     let mut known = WorkedOut::new(here.alloc);
     while let Some(at) = order.pop() {
-        match learn(here, nodes, env, memory, &mut known, at) {
+        match work_out(here, nodes, env, memory, &mut known, at) {
             Ok(()) => {}
             Err(fault) => return Err(fault),
         }

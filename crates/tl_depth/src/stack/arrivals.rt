@@ -55,8 +55,8 @@ impl DepthFirst {
                 Ok(None)
             }
             Arrival::Fresh(k) => {
-                let judged = self.judged(alloc, space, nodes, k, left)?;
-                if let Some(outcome) = judged {
+                let ended = self.outcome_at(alloc, space, nodes, k, left)?;
+                if let Some(outcome) = ended {
                     return Ok(Some(outcome));
                 }
                 self.fresh(alloc, space, nodes, k, left)?;
@@ -150,7 +150,7 @@ impl DepthFirst {
     }
 
     /// The pair that was kept is too many, or accepted.
-    fn judged<S: Pairs>(
+    fn outcome_at<S: Pairs>(
         &self,
         alloc: Global,
         space: &mut S,

@@ -95,7 +95,7 @@ impl DepthFirst {
             return Ok(known);
         }
         let arrival = self.call(alloc, space, nodes, left, steps)?;
-        self.learn(arrival)?;
+        self.remember_arrival(arrival)?;
         Ok(arrival)
     }
 

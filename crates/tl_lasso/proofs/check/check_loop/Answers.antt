@@ -28,18 +28,18 @@ followed-cause p stem cycle (Err y) x same h = subst (IsLoopCause p stem cycle) 
 states-here : (p : PlainProblem) (plan both : List Action) → plan ≡ both → states p plan ≡ Some (states_of p plan) → states p both ≡ Some (states_of p plan)
 states-here p plan both q h = ap (states p) (sym q) ∙ h
 
-pub judged-requires-clause-short : goal.judged-requires-clause-short
-judged-requires-clause-short c =
+pub verdict_of-requires-clause-short : goal.verdict_of-requires-clause-short
+verdict_of-requires-clause-short c =
     let whole = c.as_slice-in-Ended.ensures ∙ c.in_ok-plan.ensures in
     omega (arith, ap length whole, length-append c.args.stem.now c.args.cycle.now, c.requires.few)
 
-pub judged-requires-clause-some : goal.judged-requires-clause-some
-judged-requires-clause-some c =
+pub verdict_of-requires-clause-some : goal.verdict_of-requires-clause-some
+verdict_of-requires-clause-some c =
     let whole = c.as_slice-in-Ended.ensures ∙ c.in_ok-plan.ensures in
     omega (arith, ap length whole, length-append c.args.stem.now c.args.cycle.now, c.requires.some)
 
-pub judged-requires-clause-kept : goal.judged-requires-clause-kept
-judged-requires-clause-kept c =
+pub verdict_of-requires-clause-kept : goal.verdict_of-requires-clause-kept
+verdict_of-requires-clause-kept c =
     let p = plain_problem c.args.task.now.problem in
     subst (λ (acts : List Action). IsKept p acts c.in-Ended.trail) (c.as_slice.ensures ∙ sym c.as_slice-in-Ended.ensures)
     (subst (λ (x : Followed). IsFollowed p true c.as_slice.result.now (Ok x)) c.in-Ended.is c.in_ok-k.ensures)
@@ -62,21 +62,21 @@ returns-clause-verdict c =
     let p = plain_problem c.args.task.now.problem in
     let whole = c.as_slice-in-Ended.ensures ∙ c.in_ok-plan.ensures in
     let kept = subst (λ (acts : List Action). IsKept p acts c.in-Ended.trail) (c.as_slice.ensures ∙ sym c.as_slice-in-Ended.ensures) (subst (λ (x : Followed). IsFollowed p true c.as_slice.result.now (Ok x)) c.in-Ended.is c.in_ok-k.ensures) in
-    c.judged.ensures.verdict c.args.stem.now c.args.cycle.now refl (states-here p c.as_slice-in-Ended.result.now (c.args.stem.now ++ c.args.cycle.now) whole kept.0)
+    c.verdict_of.ensures.verdict c.args.stem.now c.args.cycle.now refl (states-here p c.as_slice-in-Ended.result.now (c.args.stem.now ++ c.args.cycle.now) whole kept.0)
 
 pub returns-clause-valid : goal.returns-clause-valid
 returns-clause-valid c =
     let p = plain_problem c.args.task.now.problem in
     let whole = c.as_slice-in-Ended.ensures ∙ c.in_ok-plan.ensures in
     let kept = subst (λ (acts : List Action). IsKept p acts c.in-Ended.trail) (c.as_slice.ensures ∙ sym c.as_slice-in-Ended.ensures) (subst (λ (x : Followed). IsFollowed p true c.as_slice.result.now (Ok x)) c.in-Ended.is c.in_ok-k.ensures) in
-    valid-of p c.args.stem.now c.args.cycle.now c.judged.result (c.judged.ensures.verdict c.args.stem.now c.args.cycle.now refl (states-here p c.as_slice-in-Ended.result.now (c.args.stem.now ++ c.args.cycle.now) whole kept.0))
+    valid-of p c.args.stem.now c.args.cycle.now c.verdict_of.result (c.verdict_of.ensures.verdict c.args.stem.now c.args.cycle.now refl (states-here p c.as_slice-in-Ended.result.now (c.args.stem.now ++ c.args.cycle.now) whole kept.0))
 
 pub returns-clause-cause : goal.returns-clause-cause
 returns-clause-cause c =
     let p = plain_problem c.args.task.now.problem in
     let whole = c.as_slice-in-Ended.ensures ∙ c.in_ok-plan.ensures in
     let kept = subst (λ (acts : List Action). IsKept p acts c.in-Ended.trail) (c.as_slice.ensures ∙ sym c.as_slice-in-Ended.ensures) (subst (λ (x : Followed). IsFollowed p true c.as_slice.result.now (Ok x)) c.in-Ended.is c.in_ok-k.ensures) in
-    c.judged.ensures.cause c.args.stem.now c.args.cycle.now refl (states-here p c.as_slice-in-Ended.result.now (c.args.stem.now ++ c.args.cycle.now) whole kept.0)
+    c.verdict_of.ensures.cause c.args.stem.now c.args.cycle.now refl (states-here p c.as_slice-in-Ended.result.now (c.args.stem.now ++ c.args.cycle.now) whole kept.0)
 
 pub returns-in_err-k-clause-cause : goal.returns-in_err-k-clause-cause
 returns-in_err-k-clause-cause c =

@@ -16,8 +16,8 @@ use Rattle.tl_progress.proofs.progression.ordered_residual.Goals as goal
 pub loop-at-init : goal.loop-at-init
 loop-at-init c = record { remembers = c.requires.remembers; frame = refl; kept = λ i f h. h; order = c.in_ok-order.ensures; known = c.new-known.ensures _ _ _ }
 
-pub learn-requires : goal.learn-requires
-learn-requires c =
+pub work_out-requires : goal.work_out-requires
+work_out-requires c =
     let last = last-of (IsBelow false (trees c.args.nodes.now) c.args.id) c.loop-at.order.items c.pop.new.self.items c.in-Some.at c.in-Some.ensures.items c.loop-at.invariant.order in
     let under = last.1.under in
     let inside : c.in-Some.at < length (trees c.args.nodes.now) = omega (arith, under, c.requires.id) in
@@ -43,14 +43,14 @@ returns-in-Err-clause-cause c =
     (subst (λ (v : List (Option Value)). IsCausedBy (looked_for_residual (plain_problem c.args.here.now.task.now.problem) c.args.here.now.world.now (assignment_in v) (tree_at (trees c.loop-at.nodes) c.in-Some.at)) c.in-Err.fault) c.loop-at.invariant.frame c.in-Err.ensures.cause))
 
 pub returns-in-Err-clause-frame : goal.returns-in-Err-clause-frame
-returns-in-Err-clause-frame c = c.learn.ensures.frame ∙ c.loop-at.invariant.frame
+returns-in-Err-clause-frame c = c.work_out.ensures.frame ∙ c.loop-at.invariant.frame
 
 pub loop-at-preserved : goal.loop-at-preserved
 loop-at-preserved c =
     let last = last-of (IsBelow false (trees c.args.nodes.now) c.args.id) c.loop-at.order.items c.pop.new.self.items c.in-Some.at c.in-Some.ensures.items c.loop-at.invariant.order in
     record {
-      remembers = c.learn.ensures.remembers;
-      frame = c.learn.ensures.frame ∙ c.loop-at.invariant.frame;
+      remembers = c.work_out.ensures.remembers;
+      frame = c.work_out.ensures.frame ∙ c.loop-at.invariant.frame;
       kept = λ i f h. c.in-Ok.ensures.kept i f (c.loop-at.invariant.kept i f h);
       order = last.0;
       known = c.in-Ok.ensures.known;

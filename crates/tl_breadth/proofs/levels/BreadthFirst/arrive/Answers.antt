@@ -18,8 +18,8 @@ use Rattle.tl_breadth.proofs.levels.BreadthFirst.arrive.Goals as goal
 pub child-requires-clause-executable : goal.child-requires-clause-executable
 child-requires-clause-executable g c = turn-executable _ _ _ _ _ _ c.requires.turn
 
-pub judged-requires : goal.judged-requires
-judged-requires g c =
+pub outcome_at-requires : goal.outcome_at-requires
+outcome_at-requires g c =
     let t = c.requires.turn in
     let new = g.S.Pairs.kept c.child.new.self in
     subst (λ p. AwaitsJudgement p c.args.self.now.within c.args.self.now.nodes new c.in-Ok-Fresh.k) (sym c.child.ensures.problem)
@@ -34,10 +34,10 @@ returns-in_ok-report_arrival-in-Ok-Fresh-clause-outcome g c =
     let n = c.args.self.now.within in
     let b = c.args.self.now.nodes in
     let k = c.in-Ok-Fresh.k in
-    subst (λ xs. IfOk c.judged.result (Leaves p n b xs (IsTriedThen p n b old xs c.args.at c.args.a.now))) (sym c.judged.ensures.kept)
-    (leaves-map p n b new (NoneAccepted p new (k + 1) × (k + 1 ≤ b)) (IsTriedThen p n b old new c.args.at c.args.a.now) c.judged.result
+    subst (λ xs. IfOk c.outcome_at.result (Leaves p n b xs (IsTriedThen p n b old xs c.args.at c.args.a.now))) (sym c.outcome_at.ensures.kept)
+    (leaves-map p n b new (NoneAccepted p new (k + 1) × (k + 1 ≤ b)) (IsTriedThen p n b old new c.args.at c.args.a.now) c.outcome_at.result
     (λ h. fresh-tried p n b old c.args.at c.args.a.now new t.pair t.is_pair k t ((rw c.in-Ok-Fresh.field-0-is at c.in-Ok-Fresh.ensures.arrival) t.pair t.is_pair) (subst (λ q. AreKept (pair_graph q) new) c.child.ensures.problem c.child.ensures.kept) h.0 h.1)
-    (subst (λ q. IfOk c.judged.result (Leaves q n b new (NoneAccepted q new (k + 1) × (k + 1 ≤ b)))) c.child.ensures.problem c.judged.ensures.outcome))
+    (subst (λ q. IfOk c.outcome_at.result (Leaves q n b new (NoneAccepted q new (k + 1) × (k + 1 ≤ b)))) c.child.ensures.problem c.outcome_at.ensures.outcome))
 
 pub returns-in_ok-report_arrival-in-Ok-Seen-clause-outcome : goal.returns-in_ok-report_arrival-in-Ok-Seen-clause-outcome
 returns-in_ok-report_arrival-in-Ok-Seen-clause-outcome g c = seen-tried _ _ _ _ _ _ (g.S.Pairs.kept c.child.new.self) c.requires.turn.pair c.requires.turn.is_pair _ ((rw c.in-Ok-Seen.field-0-is at c.in-Ok-Seen.ensures.arrival) c.requires.turn.pair c.requires.turn.is_pair)
@@ -46,9 +46,9 @@ pub returns-in_ok-report_arrival-in-Ok-Pruned-clause-outcome : goal.returns-in_o
 returns-in_ok-report_arrival-in-Ok-Pruned-clause-outcome g c = pruned-tried _ _ _ _ _ _ (g.S.Pairs.kept c.child.new.self) c.requires.turn.pair c.requires.turn.is_pair ((rw c.in-Ok-Pruned.field-0-is at c.in-Ok-Pruned.ensures.arrival) c.requires.turn.pair c.requires.turn.is_pair)
 
 pub returns-in_ok-report_arrival-in-Ok-Fresh-clause-grows : goal.returns-in_ok-report_arrival-in-Ok-Fresh-clause-grows
-returns-in_ok-report_arrival-in-Ok-Fresh-clause-grows g c = ok-anyway _ c.judged.result (λ pair e.
+returns-in_ok-report_arrival-in-Ok-Fresh-clause-grows g c = ok-anyway _ c.outcome_at.result (λ pair e.
     (let h = (rw c.in-Ok-Fresh.field-0-is at c.in-Ok-Fresh.ensures.arrival) pair e in
-    grows-one _ _ _ (record { node = h.1.0; path = pair.path ++ c.args.a.now ∷ [] }) (c.judged.ensures.kept ∙ h.1.3) (length-snoc pair.path c.args.a.now ∙ sym (add-one (length pair.path)))))
+    grows-one _ _ _ (record { node = h.1.0; path = pair.path ++ c.args.a.now ∷ [] }) (c.outcome_at.ensures.kept ∙ h.1.3) (length-snoc pair.path c.args.a.now ∙ sym (add-one (length pair.path)))))
 
 pub returns-in_ok-report_arrival-in-Ok-Seen-clause-grows : goal.returns-in_ok-report_arrival-in-Ok-Seen-clause-grows
 returns-in_ok-report_arrival-in-Ok-Seen-clause-grows g c pair e = grows-same _ _ _ ((rw c.in-Ok-Seen.field-0-is at c.in-Ok-Seen.ensures.arrival) pair e).0
@@ -62,8 +62,8 @@ returns-in_ok-report_arrival-in-Ok-Fresh-clause-reported g c =
     let old = g.S.Pairs.kept c.args.space.now in
     let new = g.S.Pairs.kept c.child.new.self in
     let events = c.report_arrival.new.events in
-    ok-anyway _ c.judged.result (λ from k pair listed e short l turn s.
-    subst (λ xs. IsReported p c.args.self.now.within c.args.self.now.watch from xs c.args.at (take (k + 1) listed) events c.child.new.steps) (sym c.judged.ensures.kept)
+    ok-anyway _ c.outcome_at.result (λ from k pair listed e short l turn s.
+    subst (λ xs. IsReported p c.args.self.now.within c.args.self.now.watch from xs c.args.at (take (k + 1) listed) events c.child.new.steps) (sym c.outcome_at.ensures.kept)
     (subst (λ m. IsReported p c.args.self.now.within c.args.self.now.watch from new c.args.at (take (k + 1) listed) events m) (sym c.child.ensures.ticks)
     (report-step p c.args.self.now.within c.args.self.now.watch from old new c.args.at pair listed k c.args.a.now (arrival.Fresh c.in-Ok-Fresh.k) c.args.events.now events c.args.steps.now e short l turn ((rw c.in-Ok-Fresh.field-0-is at c.in-Ok-Fresh.ensures.arrival) pair e) (subst (λ q. AreKept (pair_graph q) new) c.child.ensures.problem c.child.ensures.kept) c.in_ok-report_arrival-in-Ok-Fresh.ensures s)))
 
@@ -90,8 +90,8 @@ returns-in_ok-report_arrival-in-Ok-Fresh-clause-ends g c =
     let t = c.requires.turn in
     let h = (rw c.in-Ok-Fresh.field-0-is at c.in-Ok-Fresh.ensures.arrival) t.pair t.is_pair in
     let new = g.S.Pairs.kept c.child.new.self in
-    subst (λ xs. IfOk c.judged.result (EndsWithPathIfAny c.args.self.now.watch xs c.report_arrival.new.events)) (sym c.judged.ensures.kept)
-    (ends-at-last c.args.self.now.watch new c.report_arrival.new.events c.judged.result c.judged.ensures.early c.judged.ensures.last (ends-by-keeping c.args.self.now.watch (g.S.Pairs.kept c.args.space.now) new c.args.events.now c.report_arrival.new.events c.args.at c.args.a.now c.in-Ok-Fresh.k (record { node = h.1.0; path = t.pair.path ++ c.args.a.now ∷ [] }) h.0 h.1.3 c.in_ok-report_arrival-in-Ok-Fresh.ensures))
+    subst (λ xs. IfOk c.outcome_at.result (EndsWithPathIfAny c.args.self.now.watch xs c.report_arrival.new.events)) (sym c.outcome_at.ensures.kept)
+    (ends-at-last c.args.self.now.watch new c.report_arrival.new.events c.outcome_at.result c.outcome_at.ensures.early c.outcome_at.ensures.last (ends-by-keeping c.args.self.now.watch (g.S.Pairs.kept c.args.space.now) new c.args.events.now c.report_arrival.new.events c.args.at c.args.a.now c.in-Ok-Fresh.k (record { node = h.1.0; path = t.pair.path ++ c.args.a.now ∷ [] }) h.0 h.1.3 c.in_ok-report_arrival-in-Ok-Fresh.ensures))
 
 pub returns-in_err-report_arrival-in-Ok-Fresh-clause-ticked : goal.returns-in_err-report_arrival-in-Ok-Fresh-clause-ticked
 returns-in_err-report_arrival-in-Ok-Fresh-clause-ticked g c = err-anyway _ _ (ticked-child _ c.args.self.now.within c.args.self.now.watch (g.S.Pairs.kept c.args.space.now) (g.S.Pairs.kept c.child.new.self) (g.S.Pairs.kept c.child.new.self) c.args.at c.args.a.now c.child.result c.args.events.now c.args.steps.now c.child.new.steps refl c.child.ensures.ticks c.child.ensures.arrival c.child.ensures.refused)
@@ -103,16 +103,16 @@ pub returns-in_err-report_arrival-in-Ok-Pruned-clause-ticked : goal.returns-in_e
 returns-in_err-report_arrival-in-Ok-Pruned-clause-ticked g c = err-anyway _ _ (ticked-child _ c.args.self.now.within c.args.self.now.watch (g.S.Pairs.kept c.args.space.now) (g.S.Pairs.kept c.child.new.self) (g.S.Pairs.kept c.child.new.self) c.args.at c.args.a.now c.child.result c.args.events.now c.args.steps.now c.child.new.steps refl c.child.ensures.ticks c.child.ensures.arrival c.child.ensures.refused)
 
 pub returns-in_ok-report_arrival-in-Ok-Fresh-clause-ticked : goal.returns-in_ok-report_arrival-in-Ok-Fresh-clause-ticked
-returns-in_ok-report_arrival-in-Ok-Fresh-clause-ticked g c = err-anyway _ c.judged.result (ticked-child _ c.args.self.now.within c.args.self.now.watch (g.S.Pairs.kept c.args.space.now) (g.S.Pairs.kept c.child.new.self) (g.S.Pairs.kept c.judged.new.space) c.args.at c.args.a.now c.child.result c.args.events.now c.args.steps.now c.child.new.steps c.judged.ensures.kept c.child.ensures.ticks c.child.ensures.arrival c.child.ensures.refused)
+returns-in_ok-report_arrival-in-Ok-Fresh-clause-ticked g c = err-anyway _ c.outcome_at.result (ticked-child _ c.args.self.now.within c.args.self.now.watch (g.S.Pairs.kept c.args.space.now) (g.S.Pairs.kept c.child.new.self) (g.S.Pairs.kept c.outcome_at.new.space) c.args.at c.args.a.now c.child.result c.args.events.now c.args.steps.now c.child.new.steps c.outcome_at.ensures.kept c.child.ensures.ticks c.child.ensures.arrival c.child.ensures.refused)
 
 pub returns-in_ok-report_arrival-in-Ok-Fresh-clause-plan_named : goal.returns-in_ok-report_arrival-in-Ok-Fresh-clause-plan_named
-returns-in_ok-report_arrival-in-Ok-Fresh-clause-plan_named g c = subst (λ t. IfOk c.judged.result (EndIsNamed t)) c.child.ensures.task c.judged.ensures.plan_named
+returns-in_ok-report_arrival-in-Ok-Fresh-clause-plan_named g c = subst (λ t. IfOk c.outcome_at.result (EndIsNamed t)) c.child.ensures.task c.outcome_at.ensures.plan_named
 
 pub returns-in_ok-report_arrival-in-Ok-Fresh-clause-path_named : goal.returns-in_ok-report_arrival-in-Ok-Fresh-clause-path_named
-returns-in_ok-report_arrival-in-Ok-Fresh-clause-path_named g c = subst (λ t. IfErr c.judged.result (FaultIsNamed t)) c.child.ensures.task c.judged.ensures.path_named
+returns-in_ok-report_arrival-in-Ok-Fresh-clause-path_named g c = subst (λ t. IfErr c.outcome_at.result (FaultIsNamed t)) c.child.ensures.task c.outcome_at.ensures.path_named
 
 pub returns-in_ok-report_arrival-in-Ok-Fresh-clause-events_named : goal.returns-in_ok-report_arrival-in-Ok-Fresh-clause-events_named
-returns-in_ok-report_arrival-in-Ok-Fresh-clause-events_named g c = ok-anyway _ c.judged.result (events-named (g.S.Pairs.task c.args.space.now) c.args.self.now.watch c.args.events.now c.report_arrival.new.events _ c.requires.events (event-named (g.S.Pairs.task c.args.space.now) c.args.at c.args.a.now (arrival.Fresh c.in-Ok-Fresh.k) c.requires.named) c.in_ok-report_arrival-in-Ok-Fresh.ensures)
+returns-in_ok-report_arrival-in-Ok-Fresh-clause-events_named g c = ok-anyway _ c.outcome_at.result (events-named (g.S.Pairs.task c.args.space.now) c.args.self.now.watch c.args.events.now c.report_arrival.new.events _ c.requires.events (event-named (g.S.Pairs.task c.args.space.now) c.args.at c.args.a.now (arrival.Fresh c.in-Ok-Fresh.k) c.requires.named) c.in_ok-report_arrival-in-Ok-Fresh.ensures)
 
 pub returns-in_ok-report_arrival-in-Ok-Seen-clause-events_named : goal.returns-in_ok-report_arrival-in-Ok-Seen-clause-events_named
 returns-in_ok-report_arrival-in-Ok-Seen-clause-events_named g c = events-named (g.S.Pairs.task c.args.space.now) c.args.self.now.watch c.args.events.now c.report_arrival-in-Ok-Seen.new.events _ c.requires.events (event-named (g.S.Pairs.task c.args.space.now) c.args.at c.args.a.now (arrival.Seen c.in-Ok-Seen.k) c.requires.named) c.in_ok-report_arrival-in-Ok-Seen.ensures

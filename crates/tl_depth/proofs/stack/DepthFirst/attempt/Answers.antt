@@ -69,7 +69,7 @@ returns-in-Some-clause-named g c =
 -- ---- what the space answered is remembered
 
 pub returns-clause-arrived : goal.returns-clause-arrived
-returns-clause-arrived g c calls s = as-learnt (g.S.Pairs.problem c.args.space.now) c.args.nodes (pairs_of (g.S.Pairs.kept c.call.new.space)) c.call.new.self c.learn.new.self c.in_ok-arrival.arrival c.args.left calls c.learn.ensures.rest (c.in_ok-arrival.ensures.arrived calls s)
+returns-clause-arrived g c calls s = as-learnt (g.S.Pairs.problem c.args.space.now) c.args.nodes (pairs_of (g.S.Pairs.kept c.call.new.space)) c.call.new.self c.remember_arrival.new.self c.in_ok-arrival.arrival c.args.left calls c.remember_arrival.ensures.rest (c.in_ok-arrival.ensures.arrived calls s)
 
 pub returns-clause-remembered : goal.returns-clause-remembered
 returns-clause-remembered g c =
@@ -78,7 +78,7 @@ returns-clause-remembered g c =
     let before = stay-right (g.S.Pairs.problem c.args.space.now) (g.S.Pairs.task c.args.space.now) (g.S.Pairs.kept c.args.space.now) new c.args.self.now.expansions c.in_ok-arrival.ensures.grows c.requires.remembered.expansions in
     record {
       kept_rightly = c.in_ok-arrival.ensures.kept;
-      expansions = c.in_ok-learn.ensures.remembered r.1.level.front c.index-as_slice-top.result (ap (λ (w : DepthFirst). w.stack.items) c.call.ensures.rest ∙ r.1.level.is) (g.S.Pairs.problem c.args.space.now) (g.S.Pairs.task c.args.space.now) new
+      expansions = c.in_ok-remember_arrival.ensures.remembered r.1.level.front c.index-as_slice-top.result (ap (λ (w : DepthFirst). w.stack.items) c.call.ensures.rest ∙ r.1.level.is) (g.S.Pairs.problem c.args.space.now) (g.S.Pairs.task c.args.space.now) new
           (subst (λ (w : DepthFirst). AreExpansions (g.S.Pairs.problem c.args.space.now) (g.S.Pairs.task c.args.space.now) new w.expansions) (sym c.call.ensures.rest) before)
           (c.in_ok-arrival.ensures.came r.1.level.front c.index-as_slice-top.result r.1.level.is);
     }

@@ -2,7 +2,7 @@ use Rattle.std.proofs.Common.{arith, ap, length, sym, subst}
 use Rattle.tl_depth.specs.Expansions.{CameOf}
 use Rattle.tl_depth.proofs.Ends.{on-ok-any}
 use Rattle.tl_depth.proofs.Remembering.{right-set, right-at, right-learnt}
-use Rattle.tl_depth.proofs.expansions.Expansions.learn.Goals as goal
+use Rattle.tl_depth.proofs.expansions.Expansions.remember_arrival.Goals as goal
 
 pub returns-then-at-as_slice : goal.returns-then-at-as_slice
 returns-then-at-as_slice c = on-ok-any c.add.result _ (λ p task kept right came.

@@ -2,7 +2,7 @@ use Rattle.std.proofs.Common.{sym, subst, ◌≡◌, true, slice_get, Some}
 use Rattle.tl_search.specs.Calls.{AreNamedIn}
 use Rattle.tl_breadth.proofs.Judging.{judged-none, judged-spent, judged-plan, judged-last, judged-fault, judged-of-pair}
 use Rattle.tl_search.specs.NamedAnswers.{FaultIsNamed}
-use Rattle.tl_breadth.proofs.levels.BreadthFirst.judged.Goals as goal
+use Rattle.tl_breadth.proofs.levels.BreadthFirst.outcome_at.Goals as goal
 
 pub returns-then-k-self-clause-outcome : goal.returns-then-k-self-clause-outcome
 returns-then-k-self-clause-outcome g c = judged-spent _ _ _ _ c.args.k c.requires c.if-k-self.true

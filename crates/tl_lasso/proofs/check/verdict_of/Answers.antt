@@ -8,7 +8,7 @@ use Rattle.tl_syntax.specs.declared.action.Action.{Action}
 use Rattle.tl_terms.specs.Problem.{PlainProblem}
 use Rattle.tl_terms.specs.ProblemMeaning.{plain_problem}
 use Rattle.tl_terms.specs.World.{World}
-use Rattle.tl_lasso.proofs.check.judged.Goals as goal
+use Rattle.tl_lasso.proofs.check.verdict_of.Goals as goal
 
 -- the states that are kept, and the places of the two that are compared
 module _ (p : PlainProblem) (plan : List Action) (trail : Trail) (kept : IsKept p plan trail) (n : ℕ) (some : n < length plan) (worlds : List World) (all : worlds ≡ states_of p plan) where

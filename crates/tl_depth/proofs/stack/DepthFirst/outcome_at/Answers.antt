@@ -7,7 +7,7 @@ use Rattle.tl_depth.specs.Levels.{path_of}
 use Rattle.tl_search.specs.declared.arrival.Arrival.TheVariants as arrival
 use Rattle.tl_depth.proofs.Arriving.{judged-spent, judged-plan, its-pair, judged-fault}
 use Rattle.tl_depth.proofs.SeenPairs.{accepted-pair, acceptance-pair}
-use Rattle.tl_depth.proofs.stack.DepthFirst.judged.Goals as goal
+use Rattle.tl_depth.proofs.stack.DepthFirst.outcome_at.Goals as goal
 
 pub returns-then-k-nodes-clause-judged : goal.returns-then-k-nodes-clause-judged
 returns-then-k-nodes-clause-judged g c calls s =

@@ -9,7 +9,7 @@ use Rattle.tl_progress.specs.Answers.{IsCausedBy}
 use Rattle.tl_progress.proofs.Learned.{truths-more, residuals-more}
 use Rattle.tl_progress.proofs.ResidualLayers.{truths-still}
 use Rattle.tl_progress.proofs.StateFormulas.{looked-same}
-use Rattle.tl_progress.proofs.progression.learn.Goals as goal
+use Rattle.tl_progress.proofs.progression.work_out.Goals as goal
 
 pub residual_of-requires-clause-fits : goal.residual_of-requires-clause-fits
 residual_of-requires-clause-fits c = record { around = []; fits = c.requires.sentence.fits }

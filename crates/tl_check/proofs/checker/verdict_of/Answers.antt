@@ -8,7 +8,7 @@ use Rattle.tl_check.specs.StatesAlong.{states_of}
 use Rattle.tl_check.specs.declared.along.Along.{Along}
 use Rattle.tl_syntax.specs.Lists.{Each}
 use Rattle.tl_terms.specs.ProblemMeaning.{plain_problem}
-use Rattle.tl_check.proofs.checker.judged.Goals as goal
+use Rattle.tl_check.proofs.checker.verdict_of.Goals as goal
 
 pub returns-then-not-met-clause-verdict : goal.returns-then-not-met-clause-verdict
 returns-then-not-met-clause-verdict c =
