@@ -1,5 +1,6 @@
 -- Texts of lines, and numbers in four digits.
-use Rattle.std.proofs.Common.{◌≡◌, ℕ, zero, suc, ◌*◌, ◌+◌, ◌-◌, add-one, ◌<◌, ◌≤◌, ◌^◌, List, [], ◌∷◌, ◌++◌, length, replicate, false, refl, sym, ap, append_assoc, length-append, arith}
+use Rattle.std.proofs.Common.{◌≡◌, ℕ, zero, suc, ◌*◌, ◌+◌, ◌-◌, add-one, ◌<◌, ◌≤◌, ◌^◌, List, [], ◌∷◌, ◌++◌, length, replicate, false, refl}
+use Rattle.std.proofs.Common.{sym, ap, append_assoc, length-append, arith}
 use Rattle.std.proofs.lemmas.List.{append-nil}
 use Rattle.std.proofs.lemmas.Fmt.{length-decimal-le}
 use Rattle.std.specs.Prelude.{codes}
@@ -18,7 +19,8 @@ lines_append [] ys = refl
 lines_append (x ∷ xs) ys = rw (lines_append xs ys) (sym (append_assoc x (codes "\n" ++ text_of_lines xs) (text_of_lines ys)))
 
 -- one more ball
-pub one_more_ball : (text room : List ℕ) (n : ℕ) → ((text ++ text_of_lines (ball_lines room n)) ++ ball_line room (n + 1)) ++ codes "\n" ≡ text ++ text_of_lines (ball_lines room (n + 1))
+pub one_more_ball : (text room : List ℕ) (n : ℕ) → ((text ++ text_of_lines (ball_lines room n)) ++ ball_line room (n + 1)) ++ codes "\n" ≡
+    text ++ text_of_lines (ball_lines room (n + 1))
 one_more_ball text room n = rw (add-one, lines_append (ball_lines room n) (ball_line room (suc n) ∷ [])) (simp append_assoc)
 
 length_zeros : (n : ℕ) → length {A = ℕ} (replicate n 48) ≡ n
@@ -34,21 +36,30 @@ short_number n h =
 short_line : (room : List ℕ) (n : ℕ) → length room ≤ 5 → n < 2 ^ 32 → length (text_of_lines (ball_line room n ∷ [])) ≤ 25
 short_line room n h k =
     let number = short_number n k in
-    rw (length-append (ball_line room n) (codes "\n"), length-append (ball_number n) (codes " " ++ (room ++ codes ")")), length-append room (codes ")")) (omega (arith, number, h))
+    rw (
+      length-append (ball_line room n) (codes "\n"),
+      length-append (ball_number n) (codes " " ++ (room ++ codes ")")),
+      length-append room (codes ")"),
+    ) (omega (arith, number, h))
 
 short_balls : (room : List ℕ) (n : ℕ) → length room ≤ 5 → n < 2 ^ 32 → length (text_of_lines (ball_lines room n)) ≤ 25 * n
 short_balls room zero h k = omega arith
 short_balls room (suc n) h k =
     let before = short_balls room n h (omega (arith, k)) in
     let line = short_line room (suc n) h k in
-    rw (lines_append (ball_lines room n) (ball_line room (suc n) ∷ [])) (rw (length-append (text_of_lines (ball_lines room n)) (text_of_lines (ball_line room (suc n) ∷ []))) (omega (arith, before, line)))
+    rw (lines_append (ball_lines room n) (ball_line room (suc n) ∷ []))
+    (rw (length-append (text_of_lines (ball_lines room n)) (text_of_lines (ball_line room (suc n) ∷ []))) (omega (arith, before, line)))
 
 -- the text of the problem part after part, as it is written
-pub problem_parts : (n : ℕ) → (((((codes "(problem sample\n" ++ codes " (init (room rooma) (room roomb) (at-robby rooma) (free left) (free right)\n") ++ text_of_lines (ball_lines (codes "rooma") n)) ++ codes "  )\n") ++ codes " (goal\n") ++ text_of_lines (ball_lines (codes "roomb") n)) ++ codes "  ))\n" ≡ problem_text n
+pub problem_parts : (n : ℕ) →
+    (((((codes "(problem sample\n" ++ codes " (init (room rooma) (room roomb) (at-robby rooma) (free left) (free right)\n") ++
+    text_of_lines (ball_lines (codes "rooma") n)) ++ codes "  )\n") ++ codes " (goal\n") ++ text_of_lines (ball_lines (codes "roomb") n)) ++
+    codes "  ))\n" ≡ problem_text n
 unfolding problem_text
 problem_parts n = rw (lines_append (ball_lines (codes "rooma") n) _, lines_append (ball_lines (codes "roomb") n) _) (simp append_assoc)
 
-length_parts : (a b c d e f g : List ℕ) → length ((((((a ++ b) ++ c) ++ d) ++ e) ++ f) ++ g) ≡ length a + length b + length c + length d + length e + length f + length g
+length_parts : (a b c d e f g : List ℕ) → length ((((((a ++ b) ++ c) ++ d) ++ e) ++ f) ++ g) ≡
+    length a + length b + length c + length d + length e + length f + length g
 length_parts a b c d e f g = simp length-append
 
 pub short_problem : (n : ℕ) → n ≤ 100 → length (problem_text n) ≤ 4194304

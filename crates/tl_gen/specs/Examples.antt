@@ -11,7 +11,8 @@ pub the_last_ball : ball_number 100 ≡ codes "0100"
 unfolding digits
 the_last_ball = refl
 
-pub one_ball : problem_text 1 ≡ codes "(problem sample\n (init (room rooma) (room roomb) (at-robby rooma) (free left) (free right)\n  (at b0001 rooma)\n  )\n (goal\n  (at b0001 roomb)\n  ))\n"
+pub one_ball : problem_text 1 ≡
+    codes "(problem sample\n (init (room rooma) (room roomb) (at-robby rooma) (free left) (free right)\n  (at b0001 rooma)\n  )\n (goal\n  (at b0001 roomb)\n  ))\n"
 unfolding problem_text digits
 one_ball = refl
 

@@ -1,5 +1,6 @@
 -- Trees with values put in that are remembered stay right.
-use Rattle.std.proofs.Common.{◌≡◌, ◌<◌, ◌≤◌, ◌≢◌, ◌&&◌, ◌==◌, ℕ, zero, suc, List, [], ◌∷◌, length, replicate, get_or, true, false, true≢false, eqb-true, Option, Some, None, slice_get, refl, sym, ap, ap₂, ◌∙◌, subst, arith}
+use Rattle.std.proofs.Common.{◌≡◌, ◌<◌, ◌≤◌, ◌≢◌, ◌&&◌, ◌==◌, ℕ, zero, suc, List, [], ◌∷◌, length, replicate, get_or, true, false}
+use Rattle.std.proofs.Common.{true≢false, eqb-true, Option, Some, None, slice_get, refl, sym, ap, ap₂, ◌∙◌, subst, arith}
 use Rattle.std.proofs.lemmas.Option.{slice_get_within}
 use Rattle.std.specs.Prelude.{slice_set}
 use Rattle.tl_nodes.specs.declared.nodes.filled.Filled.{Filled}
@@ -22,7 +23,8 @@ one-stays ts us kept m h =
     record {
       few = h.few;
       inside = slice_get_within us m.at (tree_at ts m.at) there;
-      is = kept m.number (substituted (assignment_of (bindings_in m)) (tree_at ts m.at)) h.is ∙ ap (λ (f : FormulaTree). Some (substituted (assignment_of (bindings_in m)) f)) (sym (at-is us m.at (tree_at ts m.at) there));
+      is = kept m.number (substituted (assignment_of (bindings_in m)) (tree_at ts m.at)) h.is ∙
+          ap (λ (f : FormulaTree). Some (substituted (assignment_of (bindings_in m)) f)) (sym (at-is us m.at (tree_at ts m.at) there));
     }
 
 pub filled-stay : (ts us : List FormulaTree) → Keeps ts us → (ms : List Filled) → AreFilled ts ms → AreFilled us ms
@@ -31,12 +33,14 @@ filled-stay ts us kept (m ∷ ms) h = (one-stays ts us kept m h.0, filled-stay t
 
 -- ---- one at a place
 
-pub filled-set : (ts : List FormulaTree) (ms : List Filled) (i : ℕ) (m : Filled) → AreFilled ts ms → IsFilled ts m → AreFilled ts (slice_set ms i m)
+pub filled-set : (ts : List FormulaTree) (ms : List Filled) (i : ℕ) (m : Filled) → AreFilled ts ms → IsFilled ts m →
+    AreFilled ts (slice_set ms i m)
 filled-set ts [] i m h k = tt
 filled-set ts (x ∷ ms) zero m h k = (k, h.1)
 filled-set ts (x ∷ ms) (suc i) m h k = (h.0, filled-set ts ms i m h.1 k)
 
-pub filled-at : (ts : List FormulaTree) (ms : List Filled) (i : ℕ) (m : Filled) → i < length ms → m ≡ get_or ms i m → AreFilled ts ms → IsFilled ts m
+pub filled-at : (ts : List FormulaTree) (ms : List Filled) (i : ℕ) (m : Filled) → i < length ms → m ≡ get_or ms i m → AreFilled ts ms →
+    IsFilled ts m
 filled-at ts [] i m l e h = absurd (omega arith)
 filled-at ts (x ∷ ms) zero m l e h = subst (IsFilled ts) (sym e) h.0
 filled-at ts (x ∷ ms) (suc i) m l e h = filled-at ts ms i m (omega arith) e h.1
@@ -47,7 +51,8 @@ set-length (x ∷ ms) zero m = refl
 set-length (x ∷ ms) (suc i) m = ap suc (set-length ms i m)
 
 -- the tree with these bindings put in
-pub is-filled : (ts : List FormulaTree) (m : Filled) (at : ℕ) (bs : List Binding) (number : ℕ) → m.at ≡ at → m.count ≤ 4 → bindings_in m ≡ bs → m.number ≡ number → at < length ts → slice_get ts number ≡ Some (substituted (assignment_of bs) (tree_at ts at)) → IsFilled ts m
+pub is-filled : (ts : List FormulaTree) (m : Filled) (at : ℕ) (bs : List Binding) (number : ℕ) → m.at ≡ at → m.count ≤ 4 → bindings_in m ≡
+    bs → m.number ≡ number → at < length ts → slice_get ts number ≡ Some (substituted (assignment_of bs) (tree_at ts at)) → IsFilled ts m
 is-filled ts m at bs number e few b n inside is = record {
   few = few;
   inside = omega (arith, e, inside);
@@ -61,7 +66,8 @@ unfolding substituted
 none-filled ts m at count number true_is = record {
   few = omega arith;
   inside = let z = slice_get_within ts 0 verum true_is in omega arith;
-  is = ap (slice_get ts) number ∙ (true_is ∙ ap (λ (f : FormulaTree). Some (substituted (assignment_of (bindings_in m)) f)) (sym (ap (tree_at ts) at ∙ at-is ts 0 verum true_is)));
+  is = ap (slice_get ts) number ∙ (true_is ∙ ap (λ (f : FormulaTree). Some (substituted (assignment_of (bindings_in m)) f))
+      (sym (ap (tree_at ts) at ∙ at-is ts 0 verum true_is)));
 }
 
 pub all-filled : (ts : List FormulaTree) (n : ℕ) (m : Filled) → IsFilled ts m → AreFilled ts (replicate n m)
@@ -95,4 +101,5 @@ bindings-count : (xs ys : List Binding) → same_bindings xs ys ≡ true → len
 bindings-count xs ys h = ap length (bindings-are xs ys h)
 
 pub bindings-short : (xs ys : List Binding) → length xs ≢ length ys → false ≡ same_bindings xs ys
-bindings-short xs ys d = elim (same_bindings xs ys) as (λ b. same_bindings xs ys ≡ b → false ≡ b) [ true ↦ λ h. absurd (d (bindings-count xs ys h)) | false ↦ λ h. refl ] refl
+bindings-short xs ys d = elim (same_bindings xs ys) as (λ b. same_bindings xs ys ≡ b → false ≡ b)
+    [ true ↦ λ h. absurd (d (bindings-count xs ys h)) | false ↦ λ h. refl ] refl

@@ -1,5 +1,6 @@
 -- Lists of trees in which of equal trees the first stays.
-use Rattle.std.proofs.Common.{◌≡◌, Bool, true, false, true≢false, cond, not, List, [], ◌∷◌, ◌++◌, ◌||◌, ◌&&◌, filter, refl, sym, ap, ◌∙◌, subst}
+use Rattle.std.proofs.Common.{◌≡◌, Bool, true, false, true≢false, cond, not, List, [], ◌∷◌, ◌++◌, ◌||◌, ◌&&◌, filter, refl, sym, ap, ◌∙◌}
+use Rattle.std.proofs.Common.{subst}
 use Rattle.std.specs.List.{list_any}
 use Rattle.tl_syntax.proofs.Same.{formula_discrete}
 use Rattle.tl_syntax.specs.Trees.{FormulaTree}
@@ -36,7 +37,8 @@ filter-swap : (p q : FormulaTree → Bool) (xs : List FormulaTree) → filter p 
 filter-swap p q xs =
     filter-twice p q (λ x. q x && p x) (λ x. refl) xs ∙ sym (filter-twice q p (λ x. q x && p x) (λ x. and-swap (q x) (p x)) xs)
 
-drop-again : (f : FormulaTree) (fs gs : List FormulaTree) → filter (differs f) (without_repeats (fs ++ f ∷ gs)) ≡ filter (differs f) (without_repeats (fs ++ gs))
+drop-again : (f : FormulaTree) (fs gs : List FormulaTree) → filter (differs f) (without_repeats (fs ++ f ∷ gs)) ≡
+    filter (differs f) (without_repeats (fs ++ gs))
 unfolding without_repeats
 drop-again f [] gs =
     let xs = filter (differs f) (without_repeats gs) in
@@ -50,14 +52,17 @@ drop-again f (g ∷ fs) gs =
     ap (λ l. cond (differs f g) (g ∷ l) l) e
 
 -- a tree that came before may be left out
-pub skip-one : (fs gs : List FormulaTree) (x : FormulaTree) → contains_tree fs x ≡ true → without_repeats (fs ++ x ∷ gs) ≡ without_repeats (fs ++ gs)
+pub skip-one : (fs gs : List FormulaTree) (x : FormulaTree) → contains_tree fs x ≡ true → without_repeats (fs ++ x ∷ gs) ≡
+    without_repeats (fs ++ gs)
 unfolding without_repeats
 skip-one [] gs x h = absurd (true≢false (sym h))
 skip-one (f ∷ fs) gs x h = by (same_formula x f) refl h (λ k. skip-one fs gs x k)
   where
-    by : (b : Bool) → same_formula x f ≡ b → (b || contains_tree fs x) ≡ true → (contains_tree fs x ≡ true → without_repeats (fs ++ x ∷ gs) ≡ without_repeats (fs ++ gs))
+    by : (b : Bool) → same_formula x f ≡ b → (b || contains_tree fs x) ≡ true →
+        (contains_tree fs x ≡ true → without_repeats (fs ++ x ∷ gs) ≡ without_repeats (fs ++ gs))
         → f ∷ filter (differs f) (without_repeats (fs ++ x ∷ gs)) ≡ f ∷ filter (differs f) (without_repeats (fs ++ gs))
-    by true e k rest = ap (λ l. f ∷ l) (ap (λ y. filter (differs f) (without_repeats (fs ++ y ∷ gs))) (same_formula-is x f e) ∙ drop-again f fs gs)
+    by true e k rest = ap (λ l. f ∷ l) (ap (λ y. filter (differs f) (without_repeats (fs ++ y ∷ gs))) (same_formula-is x f e) ∙
+        drop-again f fs gs)
     by false e k rest = ap (λ l. f ∷ filter (differs f) l) (rest k)
 
 pub or-left : (a b : Bool) → a ≡ true → (a || b) ≡ true
@@ -68,7 +73,8 @@ or-right true b h = refl
 or-right false b h = h
 
 -- trees that all came before may be left out
-pub skip-all : (fs xs gs : List FormulaTree) → ((x : FormulaTree) → contains_tree xs x ≡ true → contains_tree fs x ≡ true) → without_repeats (fs ++ (xs ++ gs)) ≡ without_repeats (fs ++ gs)
+pub skip-all : (fs xs gs : List FormulaTree) → ((x : FormulaTree) → contains_tree xs x ≡ true → contains_tree fs x ≡ true) →
+    without_repeats (fs ++ (xs ++ gs)) ≡ without_repeats (fs ++ gs)
 skip-all fs [] gs h = refl
 skip-all fs (x ∷ xs) gs h =
     skip-one fs (xs ++ gs) x (h x (or-left (same_formula x x) (contains_tree xs x) (same-of x x refl)))
@@ -82,11 +88,13 @@ fails-too p f h x = by (same_formula f x) refl
     by true e = sym (ap p (same_formula-is f x e)) ∙ h
     by false e = refl
 
-any-without : (p : FormulaTree → Bool) (f : FormulaTree) → p f ≡ false → (xs : List FormulaTree) → list_any p (filter (differs f) xs) ≡ list_any p xs
+any-without : (p : FormulaTree → Bool) (f : FormulaTree) → p f ≡ false → (xs : List FormulaTree) → list_any p (filter (differs f) xs) ≡
+    list_any p xs
 any-without p f h [] = refl
 any-without p f h (x ∷ xs) = by (differs f x) refl (any-without p f h xs)
   where
-    by : (b : Bool) → differs f x ≡ b → list_any p (filter (differs f) xs) ≡ list_any p xs → list_any p (cond b (x ∷ filter (differs f) xs) (filter (differs f) xs)) ≡ (p x || list_any p xs)
+    by : (b : Bool) → differs f x ≡ b → list_any p (filter (differs f) xs) ≡ list_any p xs →
+        list_any p (cond b (x ∷ filter (differs f) xs) (filter (differs f) xs)) ≡ (p x || list_any p xs)
     by true e rest = ap (λ c. p x || c) rest
     by false e rest = rest ∙ sym (ap (λ c. c || list_any p xs) (fails-too p f h x ∙ ap (λ b. b && p x) e))
 
@@ -95,7 +103,8 @@ unfolding without_repeats
 any-once p [] = refl
 any-once p (x ∷ xs) = by (p x) refl (any-once p xs)
   where
-    by : (b : Bool) → p x ≡ b → list_any p (without_repeats xs) ≡ list_any p xs → (b || list_any p (filter (differs x) (without_repeats xs))) ≡ (b || list_any p xs)
+    by : (b : Bool) → p x ≡ b → list_any p (without_repeats xs) ≡ list_any p xs →
+        (b || list_any p (filter (differs x) (without_repeats xs))) ≡ (b || list_any p xs)
     by true e rest = refl
     by false e rest = any-without p x e (without_repeats xs) ∙ rest
 
@@ -105,7 +114,8 @@ filter-once p [] = refl
 filter-once p (x ∷ xs) = by (p x) refl (filter-once p xs)
   where
     by : (b : Bool) → p x ≡ b → without_repeats (filter p xs) ≡ filter p (without_repeats xs)
-        → without_repeats (cond b (x ∷ filter p xs) (filter p xs)) ≡ cond b (x ∷ filter p (filter (differs x) (without_repeats xs))) (filter p (filter (differs x) (without_repeats xs)))
+        → without_repeats (cond b (x ∷ filter p xs) (filter p xs)) ≡ cond b (x ∷ filter p (filter (differs x) (without_repeats xs)))
+        (filter p (filter (differs x) (without_repeats xs)))
     by true e rest = ap (λ l. x ∷ l) (ap (filter (differs x)) rest ∙ filter-swap (differs x) p (without_repeats xs))
     by false e rest = rest ∙ sym (filter-twice p (differs x) p (fails-too p x e) (without_repeats xs))
 

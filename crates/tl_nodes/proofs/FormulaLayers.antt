@@ -8,7 +8,9 @@ use Rattle.tl_syntax.specs.declared.value.Cmp.{Cmp}
 use Rattle.tl_syntax.specs.declared.variable.Arg.{Arg}
 use Rattle.tl_syntax.specs.Basic.{is_basic}
 use Rattle.tl_syntax.specs.TreeOfFormula.{tree_of_formula}
-use Rattle.tl_syntax.specs.Trees.{FormulaTree, TermTree, TermTrees, atom, defined, compare, goal_fact, goal_place, goal_not, verum, falsum, negation, conjunction, disjunction, for_all, for_some, next, always, eventually, until, within, during, formulas_of_list}
+use Rattle.tl_syntax.specs.Trees.{FormulaTree, TermTree, TermTrees, atom, defined, compare, goal_fact, goal_place, goal_not, verum, falsum}
+use Rattle.tl_syntax.specs.Trees.{negation, conjunction, disjunction, for_all, for_some, next, always, eventually, until, within, during}
+use Rattle.tl_syntax.specs.Trees.{formulas_of_list}
 use Rattle.tl_syntax.proofs.FormulaTrees.{formula_trees, trees-Formulas}
 use Rattle.tl_syntax.proofs.Plain.{with_both}
 use Rattle.tl_nodes.specs.Fits.{all_below, fits}
@@ -32,7 +34,8 @@ pub node-Not : (ts : List FormulaTree) (i : ℕ) → tree_of_node ts (node.Not i
 unfolding tree_of_node
 node-Not ts i = refl
 
-pub node-And : (ts : List FormulaTree) (ids : List ℕ) → tree_of_node ts (node.And ids) ≡ conjunction (formulas_of_list (map (tree_at ts) ids))
+pub node-And : (ts : List FormulaTree) (ids : List ℕ) → tree_of_node ts (node.And ids) ≡
+    conjunction (formulas_of_list (map (tree_at ts) ids))
 unfolding tree_of_node
 node-And ts ids = refl
 
@@ -64,11 +67,13 @@ pub node-During : (ts : List FormulaTree) (n i : ℕ) → tree_of_node ts (node.
 unfolding tree_of_node
 node-During ts n i = refl
 
-pub node-ForAll : (ts : List FormulaTree) (vs : List Var) (b : Bound) (i : ℕ) → tree_of_node ts (node.ForAll vs b i) ≡ for_all vs b (tree_at ts i)
+pub node-ForAll : (ts : List FormulaTree) (vs : List Var) (b : Bound) (i : ℕ) → tree_of_node ts (node.ForAll vs b i) ≡
+    for_all vs b (tree_at ts i)
 unfolding tree_of_node
 node-ForAll ts vs b i = refl
 
-pub node-Exists : (ts : List FormulaTree) (vs : List Var) (b : Bound) (i : ℕ) → tree_of_node ts (node.Exists vs b i) ≡ for_some vs b (tree_at ts i)
+pub node-Exists : (ts : List FormulaTree) (vs : List Var) (b : Bound) (i : ℕ) → tree_of_node ts (node.Exists vs b i) ≡
+    for_some vs b (tree_at ts i)
 unfolding tree_of_node
 node-Exists ts vs b i = refl
 
@@ -114,7 +119,8 @@ pub fits-Always : (ts : List FormulaTree) (i : ℕ) (t : FormulaTree) → slice_
 unfolding fits
 fits-Always ts i t h = inside ts i t h
 
-pub fits-Eventually : (ts : List FormulaTree) (i : ℕ) (t : FormulaTree) → slice_get ts i ≡ Some t → fits (length ts) (node.Eventually i) ≡ true
+pub fits-Eventually : (ts : List FormulaTree) (i : ℕ) (t : FormulaTree) → slice_get ts i ≡ Some t → fits (length ts) (node.Eventually i) ≡
+    true
 unfolding fits
 fits-Eventually ts i t h = inside ts i t h
 
@@ -126,15 +132,18 @@ pub fits-During : (ts : List FormulaTree) (n i : ℕ) (t : FormulaTree) → slic
 unfolding fits
 fits-During ts n i t h = inside ts i t h
 
-pub fits-ForAll : (ts : List FormulaTree) (vs : List Var) (b : Bound) (i : ℕ) (t : FormulaTree) → slice_get ts i ≡ Some t → fits (length ts) (node.ForAll vs b i) ≡ true
+pub fits-ForAll : (ts : List FormulaTree) (vs : List Var) (b : Bound) (i : ℕ) (t : FormulaTree) → slice_get ts i ≡ Some t →
+    fits (length ts) (node.ForAll vs b i) ≡ true
 unfolding fits
 fits-ForAll ts vs b i t h = inside ts i t h
 
-pub fits-Exists : (ts : List FormulaTree) (vs : List Var) (b : Bound) (i : ℕ) (t : FormulaTree) → slice_get ts i ≡ Some t → fits (length ts) (node.Exists vs b i) ≡ true
+pub fits-Exists : (ts : List FormulaTree) (vs : List Var) (b : Bound) (i : ℕ) (t : FormulaTree) → slice_get ts i ≡ Some t →
+    fits (length ts) (node.Exists vs b i) ≡ true
 unfolding fits
 fits-Exists ts vs b i t h = inside ts i t h
 
-pub fits-Until : (ts : List FormulaTree) (i j : ℕ) (t u : FormulaTree) → slice_get ts i ≡ Some t → slice_get ts j ≡ Some u → fits (length ts) (node.Until i j) ≡ true
+pub fits-Until : (ts : List FormulaTree) (i j : ℕ) (t u : FormulaTree) → slice_get ts i ≡ Some t → slice_get ts j ≡ Some u →
+    fits (length ts) (node.Until i j) ≡ true
 unfolding fits
 fits-Until ts i j t u h k = with_both (inside ts i t h) (inside ts j u k)
 

@@ -1,5 +1,6 @@
 -- The join of numbers, by the numbers that are left of its parts.
-use Rattle.std.proofs.Common.{◌≡◌, ℕ, Bool, true, false, true≢false, cond, not, List, [], ◌∷◌, map, filter, length, Some, slice_get, slice_index_or, nat_lt, nat_eq, eqb-true, eq-eqb, refl, sym, ap, ap₂, ◌∙◌, arith}
+use Rattle.std.proofs.Common.{◌≡◌, ℕ, Bool, true, false, true≢false, cond, not, List, [], ◌∷◌, map, filter, length, Some, slice_get}
+use Rattle.std.proofs.Common.{slice_index_or, nat_lt, nat_eq, eqb-true, eq-eqb, refl, sym, ap, ap₂, ◌∙◌, arith}
 use Rattle.std.specs.List.{list_any, flat_map}
 use Rattle.indexmap.specs.IndexSet.{insert_all}
 use borrow.Author.Tests.{ltb-true}
@@ -7,7 +8,8 @@ use Rattle.tl_syntax.specs.declared.junction.Junction.{Junction}
 use Rattle.tl_syntax.specs.declared.junction.Junction.TheVariants.{All, Any}
 use Rattle.tl_syntax.specs.Trees.{FormulaTree, verum, falsum}
 use Rattle.tl_syntax.proofs.Plain.{both}
-use Rattle.tl_terms.specs.Simplification.{same_formula, is_verum, is_falsum, without_repeats, conjunction_of, disjunction_of, and_parts, or_parts, simplified_and, simplified_or}
+use Rattle.tl_terms.specs.Simplification.{same_formula, is_verum, is_falsum, without_repeats, conjunction_of, disjunction_of, and_parts}
+use Rattle.tl_terms.specs.Simplification.{or_parts, simplified_and, simplified_or}
 use Rattle.tl_terms.proofs.Simplification.{same_formula-is}
 use Rattle.tl_nodes.specs.Fits.{all_below, fits}
 use Rattle.tl_nodes.specs.Joins.{junction_parts, simplified_join, dropped, decides, join_node}
@@ -46,7 +48,9 @@ abbrev pub list_join : Junction → List FormulaTree → FormulaTree
 list_join All fs = conjunction_of fs
 list_join Any fs = disjunction_of fs
 
-joined-zero : (junction : Junction) (fs ps : List FormulaTree) → without_repeats ps ≡ without_repeats (flat_map (junction_parts junction) fs) → list_any (is_zero junction) ps ≡ true → simplified_join junction fs ≡ zero_tree junction
+joined-zero : (junction : Junction) (fs ps : List FormulaTree) → without_repeats ps ≡
+    without_repeats (flat_map (junction_parts junction) fs) → list_any (is_zero junction) ps ≡ true → simplified_join junction fs ≡
+    zero_tree junction
 unfolding simplified_join junction_parts simplified_and simplified_or
 joined-zero All fs ps e h =
     let xs = flat_map and_parts fs in
@@ -55,7 +59,9 @@ joined-zero Any fs ps e h =
     let xs = flat_map or_parts fs in
     ap (λ b. cond b verum (disjunction_of (without_repeats (filter (λ f. not (is_falsum f)) xs)))) (sym (same-any ps xs e is_verum) ∙ h)
 
-joined-rest : (junction : Junction) (fs ps : List FormulaTree) → without_repeats ps ≡ without_repeats (flat_map (junction_parts junction) fs) → list_any (is_zero junction) ps ≡ false → simplified_join junction fs ≡ list_join junction (without_repeats (filter (λ f. not (is_unit junction f)) ps))
+joined-rest : (junction : Junction) (fs ps : List FormulaTree) → without_repeats ps ≡
+    without_repeats (flat_map (junction_parts junction) fs) → list_any (is_zero junction) ps ≡ false → simplified_join junction fs ≡
+    list_join junction (without_repeats (filter (λ f. not (is_unit junction f)) ps))
 unfolding simplified_join junction_parts simplified_and simplified_or
 joined-rest All fs ps e h =
     let xs = flat_map and_parts fs in
@@ -70,7 +76,8 @@ empty : (ks : List ℕ) → length ks ≡ 0 → ks ≡ []
 empty [] h = refl
 empty (x ∷ xs) h = absurd (omega arith)
 
-many : (ts : List FormulaTree) (junction : Junction) (ks : List ℕ) → (length ks ≡ 0 → ⊥) → (length ks ≡ 1 → ⊥) → tree_of_node ts (join_node junction ks) ≡ list_join junction (trees_at ts ks)
+many : (ts : List FormulaTree) (junction : Junction) (ks : List ℕ) → (length ks ≡ 0 → ⊥) → (length ks ≡ 1 → ⊥) →
+    tree_of_node ts (join_node junction ks) ≡ list_join junction (trees_at ts ks)
 unfolding tree_of_node
 many ts junction [] a b = absurd (a refl)
 many ts junction (x ∷ []) a b = absurd (b refl)
@@ -112,13 +119,17 @@ module _ (ts : List FormulaTree) (one : OneToOne ts) (z : slice_get ts 0 ≡ Som
   unit-there All = z
   unit-there Any = f
 
-  pub decided : (junction : Junction) (xs : List ℕ) (fs : List FormulaTree) → all_below (length ts) xs ≡ true → without_repeats (trees_at ts xs) ≡ without_repeats (flat_map (junction_parts junction) fs)
+  pub decided : (junction : Junction) (xs : List ℕ) (fs : List FormulaTree) → all_below (length ts) xs ≡ true →
+      without_repeats (trees_at ts xs) ≡ without_repeats (flat_map (junction_parts junction) fs)
       → list_any (λ y. nat_eq y (decides junction)) xs ≡ true → slice_get ts (decides junction) ≡ Some (simplified_join junction fs)
   decided junction xs fs below e h =
-      zero-there junction ∙ ap Some (sym (joined-zero junction fs (trees_at ts xs) e (any-map (tree_at ts) (length ts) (is_zero junction) (λ y. nat_eq y (decides junction)) (zero-at junction) xs below ∙ h)))
+      zero-there junction ∙ ap Some (sym (joined-zero junction fs (trees_at ts xs) e
+      (any-map (tree_at ts) (length ts) (is_zero junction) (λ y. nat_eq y (decides junction)) (zero-at junction) xs below ∙ h)))
 
-  module _ (junction : Junction) (xs : List ℕ) (fs : List FormulaTree) (below : all_below (length ts) xs ≡ true) (e : without_repeats (trees_at ts xs) ≡ without_repeats (flat_map (junction_parts junction) fs))
-      (h : list_any (λ y. nat_eq y (decides junction)) xs ≡ false) (ks : List ℕ) (k : ks ≡ insert_all nat_eq [] (filter (λ i. not (nat_eq i (dropped junction))) xs)) where
+  module _ (junction : Junction) (xs : List ℕ) (fs : List FormulaTree) (below : all_below (length ts) xs ≡ true)
+      (e : without_repeats (trees_at ts xs) ≡ without_repeats (flat_map (junction_parts junction) fs))
+      (h : list_any (λ y. nat_eq y (decides junction)) xs ≡ false) (ks : List ℕ)
+      (k : ks ≡ insert_all nat_eq [] (filter (λ i. not (nat_eq i (dropped junction))) xs)) where
     rest : List ℕ
     rest = filter (λ i. not (nat_eq i (dropped junction))) xs
 
@@ -136,9 +147,11 @@ module _ (ts : List FormulaTree) (one : OneToOne ts) (z : slice_get ts 0 ≡ Som
     pub left-joined : simplified_join junction fs ≡ list_join junction (trees_at ts ks)
     unfolding rest
     left-joined =
-        joined-rest junction fs (trees_at ts xs) e (any-map (tree_at ts) (length ts) (is_zero junction) (λ y. nat_eq y (decides junction)) (zero-at junction) xs below ∙ h)
+        joined-rest junction fs (trees_at ts xs) e (any-map (tree_at ts) (length ts) (is_zero junction) (λ y. nat_eq y (decides junction))
+        (zero-at junction) xs below ∙ h)
         ∙ ap (list_join junction)
-        (ap without_repeats (filter-map (tree_at ts) (length ts) (λ g. not (is_unit junction g)) (λ i. not (nat_eq i (dropped junction))) (λ i a. ap not (unit-at junction i a)) xs below)
+        (ap without_repeats (filter-map (tree_at ts) (length ts) (λ g. not (is_unit junction g)) (λ i. not (nat_eq i (dropped junction)))
+        (λ i a. ap not (unit-at junction i a)) xs below)
         ∙ (distinct-map (tree_at ts) (length ts) same-at rest rest-below ∙ ap (map (tree_at ts)) (sym kept-is)))
 
     pub none-left : length ks ≡ 0 → slice_get ts (dropped junction) ≡ Some (simplified_join junction fs)
@@ -147,7 +160,8 @@ module _ (ts : List FormulaTree) (one : OneToOne ts) (z : slice_get ts 0 ≡ Som
     pub one-left : length ks ≡ 1 → slice_get ts (slice_index_or ks 0 0) ≡ Some (simplified_join junction fs)
     one-left n = single junction ks n left-below ∙ ap Some (sym left-joined)
       where
-        single : (a : Junction) (l : List ℕ) → length l ≡ 1 → all_below (length ts) l ≡ true → slice_get ts (slice_index_or l 0 0) ≡ Some (list_join a (trees_at ts l))
+        single : (a : Junction) (l : List ℕ) → length l ≡ 1 → all_below (length ts) l ≡ true → slice_get ts (slice_index_or l 0 0) ≡
+            Some (list_join a (trees_at ts l))
         single a [] m b = absurd (omega arith)
         single All (x ∷ []) m b = there x (both (nat_lt x (length ts)) true b).0
         single Any (x ∷ []) m b = there x (both (nat_lt x (length ts)) true b).0
@@ -160,5 +174,6 @@ module _ (ts : List FormulaTree) (one : OneToOne ts) (z : slice_get ts 0 ≡ Som
     many-fit = join-fits (length ts) junction ks ∙ left-below
 
 -- what the code asked and kept, in the words above
-pub asked : (w d : ℕ) (shown xs : List ℕ) (r b : Bool) → r ≡ list_any (λ y. nat_eq y w) shown → w ≡ d → shown ≡ xs → r ≡ b → list_any (λ y. nat_eq y d) xs ≡ b
+pub asked : (w d : ℕ) (shown xs : List ℕ) (r b : Bool) → r ≡ list_any (λ y. nat_eq y w) shown → w ≡ d → shown ≡ xs → r ≡ b →
+    list_any (λ y. nat_eq y d) xs ≡ b
 asked w d shown xs r b v e s k = sym (ap₂ (λ x l. list_any (λ y. nat_eq y x) l) e s) ∙ (sym v ∙ k)

@@ -38,7 +38,8 @@ basic-not (goal_place f xs x) h = refl
 basic-not (goal_not p xs) h = refl
 basic-not t h = absurd (true≢false (sym h))
 
-pub other-node : (ts : List FormulaTree) (k : ℕ) (n : Node) → fits k n ≡ true → (n ≡ node.True → ⊥) → (n ≡ node.False → ⊥) → ((j : ℕ) → n ≡ node.Not j → ⊥)
+pub other-node : (ts : List FormulaTree) (k : ℕ) (n : Node) → fits k n ≡ true → (n ≡ node.True → ⊥) → (n ≡ node.False → ⊥) →
+    ((j : ℕ) → n ≡ node.Not j → ⊥)
     → simplified_not (tree_of_node ts n) ≡ negation (tree_of_node ts n)
 unfolding tree_of_node simplified_not fits
 other-node ts k node.True w a b c = absurd (a refl)
@@ -52,7 +53,8 @@ unfolding fits
 fits-not ts i h = inside-true i (length ts) h
 
 pub other-not : (ts : List FormulaTree) (i : ℕ) (n : Node) → slice_get ts i ≡ Some (tree_of_node ts n) → fits i n ≡ true
-    → (n ≡ node.True → ⊥) → (n ≡ node.False → ⊥) → ((j : ℕ) → n ≡ node.Not j → ⊥) → tree_of_node ts (node.Not i) ≡ simplified_not (tree_at ts i)
+    → (n ≡ node.True → ⊥) → (n ≡ node.False → ⊥) → ((j : ℕ) → n ≡ node.Not j → ⊥) → tree_of_node ts (node.Not i) ≡
+    simplified_not (tree_at ts i)
 unfolding tree_of_node
 other-not ts i n is_it w a b c =
     let e = at-is ts i (tree_of_node ts n) is_it in

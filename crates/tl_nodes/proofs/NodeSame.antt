@@ -1,5 +1,6 @@
 -- Two nodes are equal by the derived test exactly where they make one tree of numbers that denote different trees.
-use Rattle.std.proofs.Common.{◌≡◌, ℕ, ◌<◌, Bool, true, true≢false, List, [], ◌∷◌, map, length, ap, ap₂, sym, ◌∙◌, refl, nat_eq, nat_lt, ◌&&◌, eqb-true, eq-eqb, Some, arith}
+use Rattle.std.proofs.Common.{◌≡◌, ℕ, ◌<◌, Bool, true, true≢false, List, [], ◌∷◌, map, length, ap, ap₂, sym, ◌∙◌, refl, nat_eq, nat_lt}
+use Rattle.std.proofs.Common.{◌&&◌, eqb-true, eq-eqb, Some, arith}
 use lib.Pointwise.{pointwise}
 use borrow.Author.Tests.{ltb-true}
 use Rattle.std.proofs.lemmas.Option.{slice_get-get_or}
@@ -12,7 +13,8 @@ use Rattle.tl_nodes.specs.declared.node.Node.{Node}
 use Rattle.tl_nodes.specs.declared.node.Node.TheVariants as node
 use Rattle.tl_syntax.specs.Basic.{is_basic}
 use Rattle.tl_syntax.specs.TreeOfFormula.{tree_of_formula}
-use Rattle.tl_syntax.specs.Trees.{FormulaTree, verum, falsum, negation, conjunction, disjunction, for_all, for_some, next, always, eventually, until, within, during, formulas_of_list}
+use Rattle.tl_syntax.specs.Trees.{FormulaTree, verum, falsum, negation, conjunction, disjunction, for_all, for_some, next, always}
+use Rattle.tl_syntax.specs.Trees.{eventually, until, within, during, formulas_of_list}
 use Rattle.tl_syntax.proofs.FormulaSame.{formula_eq, formula-same}
 use Rattle.tl_syntax.proofs.PartsSame.{nat-tells, var-tells, bound-tells}
 use Rattle.tl_syntax.proofs.Plain.{both, with_both, list-tells}
@@ -36,8 +38,10 @@ alike ts node.True node.True h = refl
 alike ts node.False node.False h = refl
 alike ts (node.Basic f) (node.Basic g) h = (formula-same f g).0 h
 alike ts (node.Not i) (node.Not j) h = ap (λ k. negation (tree_at ts k)) (eqb-true i j h)
-alike ts (node.And is) (node.And js) h = ap (λ ks. conjunction (formulas_of_list (map (tree_at ts) ks))) ((list-tells nat_eq nat-tells is js).0 h)
-alike ts (node.Or is) (node.Or js) h = ap (λ ks. disjunction (formulas_of_list (map (tree_at ts) ks))) ((list-tells nat_eq nat-tells is js).0 h)
+alike ts (node.And is) (node.And js) h = ap (λ ks. conjunction (formulas_of_list (map (tree_at ts) ks)))
+    ((list-tells nat_eq nat-tells is js).0 h)
+alike ts (node.Or is) (node.Or js) h = ap (λ ks. disjunction (formulas_of_list (map (tree_at ts) ks)))
+    ((list-tells nat_eq nat-tells is js).0 h)
 alike ts (node.Next i) (node.Next j) h = ap (λ k. next (tree_at ts k)) (eqb-true i j h)
 alike ts (node.Always i) (node.Always j) h = ap (λ k. always (tree_at ts k)) (eqb-true i j h)
 alike ts (node.Eventually i) (node.Eventually j) h = ap (λ k. eventually (tree_at ts k)) (eqb-true i j h)
@@ -124,9 +128,11 @@ kind-is ts n a h = refl
 below : (i n : ℕ) → nat_lt i n ≡ true → i < n
 below i n h = ltb-true i n h
 
-at-same : (ts : List FormulaTree) → OneToOne ts → (i j : ℕ) → nat_lt i (length ts) ≡ true → nat_lt j (length ts) ≡ true → tree_at ts i ≡ tree_at ts j → nat_eq i j ≡ true
+at-same : (ts : List FormulaTree) → OneToOne ts → (i j : ℕ) → nat_lt i (length ts) ≡ true → nat_lt j (length ts) ≡ true → tree_at ts i ≡
+    tree_at ts j → nat_eq i j ≡ true
 at-same ts one i j h k e =
-    eq-eqb i j (one i j (tree_at ts i) (slice_get-get_or ts i verum (below i (length ts) h)) (slice_get-get_or ts j verum (below j (length ts) k) ∙ ap Some (sym e)))
+    eq-eqb i j (one i j (tree_at ts i) (slice_get-get_or ts i verum (below i (length ts) h))
+    (slice_get-get_or ts j verum (below j (length ts) k) ∙ ap Some (sym e)))
 
 all-same : (ts : List FormulaTree) → OneToOne ts → (is js : List ℕ) → all_below (length ts) is ≡ true → all_below (length ts) js ≡ true
     → formulas_of_list (map (tree_at ts) is) ≡ formulas_of_list (map (tree_at ts) js) → pointwise nat_eq is js ≡ true
@@ -147,8 +153,10 @@ told ts one node.True node.True h k e = refl
 told ts one node.False node.False h k e = refl
 told ts one (node.Basic f) (node.Basic g) h k e = (formula-same f g).1 e
 told ts one (node.Not i) (node.Not j) h k e = at-same ts one i j h k (let x : tree_at ts i ≡ tree_at ts j = cc in x)
-told ts one (node.And is) (node.And js) h k e = all-same ts one is js h k (let x : formulas_of_list (map (tree_at ts) is) ≡ formulas_of_list (map (tree_at ts) js) = cc in x)
-told ts one (node.Or is) (node.Or js) h k e = all-same ts one is js h k (let x : formulas_of_list (map (tree_at ts) is) ≡ formulas_of_list (map (tree_at ts) js) = cc in x)
+told ts one (node.And is) (node.And js) h k e = all-same ts one is js h k
+    (let x : formulas_of_list (map (tree_at ts) is) ≡ formulas_of_list (map (tree_at ts) js) = cc in x)
+told ts one (node.Or is) (node.Or js) h k e = all-same ts one is js h k
+    (let x : formulas_of_list (map (tree_at ts) is) ≡ formulas_of_list (map (tree_at ts) js) = cc in x)
 told ts one (node.Next i) (node.Next j) h k e = at-same ts one i j h k (let x : tree_at ts i ≡ tree_at ts j = cc in x)
 told ts one (node.Always i) (node.Always j) h k e = at-same ts one i j h k (let x : tree_at ts i ≡ tree_at ts j = cc in x)
 told ts one (node.Eventually i) (node.Eventually j) h k e = at-same ts one i j h k (let x : tree_at ts i ≡ tree_at ts j = cc in x)

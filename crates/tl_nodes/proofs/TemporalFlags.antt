@@ -1,12 +1,15 @@
 -- What is stored beside each node is whether its tree has a temporal word.
-use Rattle.std.proofs.Common.{◌≡◌, ◌↔◌, ◌<◌, arith, length, get_or, Bool, ℕ, zero, suc, true, false, true≢false, List, [], ◌∷◌, map, ap₂, sym, refl, ◌||◌}
+use Rattle.std.proofs.Common.{◌≡◌, ◌↔◌, ◌<◌, arith, length, get_or, Bool, ℕ, zero, suc, true, false, true≢false, List, [], ◌∷◌, map, ap₂}
+use Rattle.std.proofs.Common.{sym, refl, ◌||◌}
 use Rattle.std.specs.List.{list_any}
 use Rattle.tl_nodes.specs.declared.node.Node.{Node}
 use Rattle.tl_nodes.specs.declared.node.Node.TheVariants as node
 use Rattle.tl_syntax.specs.Basic.{is_basic}
 use Rattle.tl_syntax.specs.TreeOfFormula.{tree_of_formula}
 use Rattle.tl_syntax.specs.StateFormulas.{IsState, AreState}
-use Rattle.tl_syntax.specs.Trees.{FormulaTree, FormulaTrees, atom, defined, compare, goal_fact, goal_place, goal_not, negation, conjunction, disjunction, for_all, for_some, next, always, eventually, until, within, during, no_formula, more_formulas, formulas_of_list}
+use Rattle.tl_syntax.specs.Trees.{FormulaTree, FormulaTrees, atom, defined, compare, goal_fact, goal_place, goal_not, negation, conjunction}
+use Rattle.tl_syntax.specs.Trees.{disjunction, for_all, for_some, next, always, eventually, until, within, during, no_formula}
+use Rattle.tl_syntax.specs.Trees.{more_formulas, formulas_of_list}
 use Rattle.tl_nodes.specs.Fits.{fits}
 use Rattle.tl_nodes.specs.NodeTrees.{tree_at, tree_of_node}
 use Rattle.tl_nodes.specs.Temporal.{has_temporal, any_temporal, flag_of, node_temporal}
@@ -17,7 +20,8 @@ flag-at [] i = refl
 flag-at (t ∷ ts) zero = refl
 flag-at (t ∷ ts) (suc i) = flag-at ts i
 
-flags-at : (ts : List FormulaTree) (is : List ℕ) → any_temporal (formulas_of_list (map (tree_at ts) is)) ≡ list_any (flag_of (map has_temporal ts)) is
+flags-at : (ts : List FormulaTree) (is : List ℕ) → any_temporal (formulas_of_list (map (tree_at ts) is)) ≡
+    list_any (flag_of (map has_temporal ts)) is
 unfolding has_temporal any_temporal
 flags-at ts [] = refl
 flags-at ts (i ∷ is) = ap₂ (λ a b. a || b) (flag-at ts i) (flags-at ts is)
@@ -32,7 +36,8 @@ basic-plain (goal_place f xs x) h = refl
 basic-plain (goal_not p xs) h = refl
 basic-plain t h = absurd (true≢false (sym h))
 
-pub temporal-node : (ts : List FormulaTree) (n : ℕ) (a : Node) → fits n a ≡ true → has_temporal (tree_of_node ts a) ≡ node_temporal (map has_temporal ts) a
+pub temporal-node : (ts : List FormulaTree) (n : ℕ) (a : Node) → fits n a ≡ true → has_temporal (tree_of_node ts a) ≡
+    node_temporal (map has_temporal ts) a
 unfolding tree_of_node has_temporal any_temporal fits
 temporal-node ts n (node.Basic f) h = basic-plain (tree_of_formula f) h
 temporal-node ts n (node.Not i) h = flag-at ts i

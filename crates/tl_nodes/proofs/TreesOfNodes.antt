@@ -1,11 +1,13 @@
 -- The trees of a list of nodes: how many there are, and that each is its node's over all of them.
-use Rattle.std.proofs.Common.{◌≡◌, ℕ, zero, suc, ◌+◌, ◌<◌, ◌≤◌, true, List, [], ◌∷◌, ◌++◌, map, length, Some, slice_get, nat_lt, refl, sym, ap, ap₂, ◌∙◌, subst, arith, length-append, append_assoc, append-nil, fold}
+use Rattle.std.proofs.Common.{◌≡◌, ℕ, zero, suc, ◌+◌, ◌<◌, ◌≤◌, true, List, [], ◌∷◌, ◌++◌, map, length, Some, slice_get, nat_lt, refl, sym}
+use Rattle.std.proofs.Common.{ap, ap₂, ◌∙◌, subst, arith, length-append, append_assoc, append-nil, fold}
 use Rattle.std.proofs.lemmas.List.Sums.{fold-append}
 use Rattle.std.proofs.lemmas.Option.{slice_get-get_or, get_or_from_slice_get}
 use borrow.Author.Tests.{ltb-true}
 use Rattle.tl_nodes.specs.declared.node.Node.{Node}
 use Rattle.tl_nodes.specs.declared.node.Node.TheVariants as node
-use Rattle.tl_syntax.specs.Trees.{FormulaTree, verum, negation, conjunction, disjunction, for_all, for_some, next, always, eventually, until, within, during, formulas_of_list}
+use Rattle.tl_syntax.specs.Trees.{FormulaTree, verum, negation, conjunction, disjunction, for_all, for_some, next, always, eventually}
+use Rattle.tl_syntax.specs.Trees.{until, within, during, formulas_of_list}
 use Rattle.tl_syntax.proofs.Plain.{both, with_both}
 use Rattle.tl_nodes.specs.Fits.{all_below, fits, EachFits}
 use Rattle.tl_nodes.specs.NodeTrees.{tree_at, tree_of_node, trees_of_nodes}
@@ -24,7 +26,8 @@ pub trees-push : (ns : List Node) (n : Node) → trees_of_nodes (ns ++ n ∷ [])
 unfolding trees_of_nodes
 trees-push ns n = fold-append (λ ts m. ts ++ tree_of_node ts m ∷ []) [] ns (n ∷ [])
 
-folded-length : (ns : List Node) (ts : List FormulaTree) → length (fold (λ us m. us ++ tree_of_node us m ∷ []) ts ns) ≡ length ts + length ns
+folded-length : (ns : List Node) (ts : List FormulaTree) → length (fold (λ us m. us ++ tree_of_node us m ∷ []) ts ns) ≡
+    length ts + length ns
 folded-length [] ts = omega arith
 folded-length (n ∷ ns) ts = folded-length ns (ts ++ tree_of_node ts n ∷ []) ∙ simp length-append (omega arith)
 
@@ -89,7 +92,8 @@ fits-more m n le (node.Exists vs b i) h = lt-more i m n le h
 fits-more m n le a h = refl
 
 -- the trees that a fold goes on with stay
-pub folded-left : (ns : List Node) (ts : List FormulaTree) → (us : List FormulaTree) × (fold (λ us m. us ++ tree_of_node us m ∷ []) ts ns ≡ ts ++ us)
+pub folded-left : (ns : List Node) (ts : List FormulaTree) → (us : List FormulaTree) ×
+    (fold (λ us m. us ++ tree_of_node us m ∷ []) ts ns ≡ ts ++ us)
 folded-left [] ts = ([], simp append-nil)
 folded-left (n ∷ ns) ts =
     let k = folded-left ns (ts ++ tree_of_node ts n ∷ []) in
@@ -98,14 +102,17 @@ folded-left (n ∷ ns) ts =
 -- each number's tree is its node's, over all the trees
 layer-from : (ns : List Node) (ts : List FormulaTree) → ((i : ℕ) (n : Node) → slice_get ns i ≡ Some n → fits (length ts + i) n ≡ true)
     → (i : ℕ) (n : Node) → slice_get ns i ≡ Some n
-    → slice_get (fold (λ us m. us ++ tree_of_node us m ∷ []) ts ns) (length ts + i) ≡ Some (tree_of_node (fold (λ us m. us ++ tree_of_node us m ∷ []) ts ns) n)
+    → slice_get (fold (λ us m. us ++ tree_of_node us m ∷ []) ts ns) (length ts + i) ≡
+    Some (tree_of_node (fold (λ us m. us ++ tree_of_node us m ∷ []) ts ns) n)
 layer-from [] ts all i n h = let f : ⊥ = cc in absurd f
 layer-from (m ∷ ns) ts all zero n h =
     let e : m ≡ n = cc in
     let us = ts ++ tree_of_node ts m ∷ [] in
     let k = folded-left ns us in
-    let w : fits (length ts) m ≡ true = subst (λ x. fits x m ≡ true) (let z : length ts + 0 ≡ length ts = omega arith in z) (all 0 m refl) in
-    let there : slice_get (us ++ k.0) (length ts) ≡ Some (tree_of_node ts m) = get-left us k.0 (length ts) (tree_of_node ts m) (get-end ts (tree_of_node ts m)) in
+    let w : fits (length ts) m ≡ true = subst (λ x. fits x m ≡ true) (let z : length ts + 0 ≡ length ts = omega arith in z)
+    (all 0 m refl) in
+    let there : slice_get (us ++ k.0) (length ts) ≡ Some (tree_of_node ts m) =
+    get-left us k.0 (length ts) (tree_of_node ts m) (get-end ts (tree_of_node ts m)) in
     let same : tree_of_node (us ++ k.0) m ≡ tree_of_node ts m =
     ap (λ x. tree_of_node x m) (append_assoc ts (tree_of_node ts m ∷ []) k.0) ∙ node-left ts (tree_of_node ts m ∷ k.0) m w in
     let at : length ts + 0 ≡ length ts = omega arith in
@@ -118,7 +125,8 @@ layer-from (m ∷ ns) ts all (suc i) n h =
     let z : length ts + suc i ≡ length us + i = omega arith in
     rw z (layer-from ns us on i n h)
 
-pub layer : (ns : List Node) → EachFits ns → (i : ℕ) (n : Node) → slice_get ns i ≡ Some n → slice_get (trees_of_nodes ns) i ≡ Some (tree_of_node (trees_of_nodes ns) n)
+pub layer : (ns : List Node) → EachFits ns → (i : ℕ) (n : Node) → slice_get ns i ≡ Some n → slice_get (trees_of_nodes ns) i ≡
+    Some (tree_of_node (trees_of_nodes ns) n)
 unfolding trees_of_nodes
 layer ns all i n h =
     let zl : (j : ℕ) → 0 + j ≡ j = λ j. omega arith in

@@ -10,7 +10,8 @@ use Rattle.tl_nodes.specs.NodeTrees.{tree_of_node, trees_of_nodes}
 use Rattle.tl_nodes.specs.Temporal.{has_temporal, node_temporal}
 
 -- a node is read over the trees before it
-trees_example : trees_of_nodes (node.True ∷ node.False ∷ node.Not 1 ∷ node.Until 0 2 ∷ []) ≡ verum ∷ falsum ∷ negation falsum ∷ until verum (negation falsum) ∷ []
+trees_example : trees_of_nodes (node.True ∷ node.False ∷ node.Not 1 ∷ node.Until 0 2 ∷ []) ≡ verum ∷ falsum ∷ negation falsum ∷
+    until verum (negation falsum) ∷ []
 unfolding trees_of_nodes tree_of_node
 trees_example = refl
 
@@ -49,7 +50,8 @@ stored_example : node_temporal (false ∷ false ∷ true ∷ []) (node.And (0 �
 stored_example = refl
 
 -- inner conjunctions are opened at any depth, disjunctions not
-parts_example : junction_parts All (conjunction (more_formulas (conjunction (more_formulas verum no_formula)) (more_formulas falsum no_formula))) ≡ verum ∷ falsum ∷ []
+parts_example : junction_parts All (conjunction (more_formulas (conjunction (more_formulas verum no_formula))
+    (more_formulas falsum no_formula))) ≡ verum ∷ falsum ∷ []
 unfolding junction_parts and_parts
 parts_example = refl
 

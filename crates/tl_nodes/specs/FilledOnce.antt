@@ -11,7 +11,11 @@ use Rattle.tl_syntax.specs.Substitution.{substituted}
 use Rattle.tl_syntax.specs.Trees.{FormulaTree}
 
 one-filled : (ts : List FormulaTree) (m : Filled) → IsProp (IsFilled ts m)
-one-filled ts m = hlevel (props, hedberg (option_discrete formula_discrete) (slice_get ts m.number) (Some (substituted (assignment_of (bindings_in m)) (tree_at ts m.at))))
+one-filled ts m = hlevel (
+  props,
+  hedberg (option_discrete formula_discrete) (slice_get ts m.number)
+      (Some (substituted (assignment_of (bindings_in m)) (tree_at ts m.at))),
+)
 
 pub filled-prop : (ts : List FormulaTree) (ms : List Filled) → IsProp (AreFilled ts ms)
 filled-prop ts [] = hlevel

@@ -40,12 +40,15 @@ pub record IsLeft (ts : List FormulaTree) (junction : Junction) (parts ids : Lis
 -- of whatever parts the old numbers are left, the new ones are left of those and of these further
 -- ones
 abbrev pub GoesOnWith : Nodes → Junction → List ℕ → List ℕ → List ℕ → Type 0
-GoesOnWith s junction more old new = (parts : List ℕ) → IsOpened (trees s) junction parts old → IsOpened (trees s) junction (parts ++ more) new
+GoesOnWith s junction more old new = (parts : List ℕ) → IsOpened (trees s) junction parts old →
+    IsOpened (trees s) junction (parts ++ more) new
 
 -- of whatever parts the numbers are left, a number that is given denotes the join of these
 abbrev pub JoinsLeft : {E : Type 0} → Nodes → Nodes → Junction → List ℕ → Result ℕ E → Type 0
-JoinsLeft old new junction ids result = (parts : List ℕ) → IsLeft (trees old) junction parts ids → IfOk result (λ i. Denotes new i (simplified_join junction (trees_at (trees old) parts)))
+JoinsLeft old new junction ids result = (parts : List ℕ) → IsLeft (trees old) junction parts ids →
+    IfOk result (λ i. Denotes new i (simplified_join junction (trees_at (trees old) parts)))
 
 -- where a number denotes the join of such parts already, no tree is added
 abbrev pub StaysIfJoined : Nodes → Nodes → Junction → List ℕ → Type 0
-StaysIfJoined old new junction ids = (parts : List ℕ) (i : ℕ) → IsLeft (trees old) junction parts ids → Denotes old i (simplified_join junction (trees_at (trees old) parts)) → trees new ≡ trees old
+StaysIfJoined old new junction ids = (parts : List ℕ) (i : ℕ) → IsLeft (trees old) junction parts ids →
+    Denotes old i (simplified_join junction (trees_at (trees old) parts)) → trees new ≡ trees old

@@ -1,6 +1,7 @@
 -- The tree that each number denotes: a node over the trees of the nodes before it.
 use Rattle.std.specs.Prelude.{ℕ, List, [], ◌∷◌, ◌++◌, map, fold, slice_index_or}
-use Rattle.tl_syntax.specs.Trees.{FormulaTree, verum, falsum, negation, conjunction, disjunction, for_all, for_some, next, always, eventually, until, within, during, formulas_of_list}
+use Rattle.tl_syntax.specs.Trees.{FormulaTree, verum, falsum, negation, conjunction, disjunction, for_all, for_some, next, always}
+use Rattle.tl_syntax.specs.Trees.{eventually, until, within, during, formulas_of_list}
 use Rattle.tl_syntax.specs.TreeOfFormula.{tree_of_formula}
 use Rattle.tl_nodes.specs.declared.node.Node.{Node}
 use Rattle.tl_nodes.specs.declared.node.Node.TheVariants as node

@@ -23,7 +23,8 @@ AreNested s junction i found = MatchOption found (IsSingle s junction i) (λ par
 
 -- but for repeats, the numbers' trees are what the parts open to
 abbrev pub AreOpened : Nodes → Junction → List ℕ → List ℕ → Type 0
-AreOpened s junction parts flat = without_repeats (trees_at (trees s) flat) ≡ without_repeats (flat_map (junction_parts junction) (trees_at (trees s) parts))
+AreOpened s junction parts flat = without_repeats (trees_at (trees s) flat) ≡
+    without_repeats (flat_map (junction_parts junction) (trees_at (trees s) parts))
 
 -- the breadths of the numbers' trees together
 abbrev pub breadths_in : Nodes → List ℕ → ℕ

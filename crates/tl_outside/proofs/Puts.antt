@@ -1,5 +1,6 @@
 -- Bytes that are handed over call by call.
-use Rattle.std.proofs.Common.{◌≡◌, ℕ, ◌+◌, ◌-◌, ◌<◌, ◌≤◌, List, [], ◌∷◌, ◌++◌, length, take, drop, Bool, true, false, refl, sym, ap, subst, ◌∙◌, arith, append_assoc}
+use Rattle.std.proofs.Common.{◌≡◌, ℕ, ◌+◌, ◌-◌, ◌<◌, ◌≤◌, List, [], ◌∷◌, ◌++◌, length, take, drop, Bool, true, false, refl, sym, ap, subst}
+use Rattle.std.proofs.Common.{◌∙◌, arith, append_assoc}
 use Rattle.std.specs.Prelude.{None, Some, Option}
 use Rattle.std.proofs.lemmas.List.{append-nil, take_rest, drop_all}
 use Rattle.std.proofs.lemmas.Grind.{common_steps}
@@ -28,7 +29,8 @@ pub leads_first : (old : Option (List Put)) (bytes : List ℕ) → Leads old old
 leads_first old bytes = ([], (λ more all h. h), sym (with_no_puts old))
 
 -- after one more
-pub leads_more : (old new newer : Option (List Put)) (bytes : List ℕ) (d n : ℕ) → d < length bytes → Leads old new bytes d → newer ≡ with_puts new (takes_over (take (length bytes - d) (drop d bytes)) n ∷ []) → Leads old newer bytes (d + n)
+pub leads_more : (old new newer : Option (List Put)) (bytes : List ℕ) (d n : ℕ) → d < length bytes → Leads old new bytes d → newer ≡
+    with_puts new (takes_over (take (length bytes - d) (drop d bytes)) n ∷ []) → Leads old newer bytes (d + n)
 leads_more old new newer bytes d n lt (puts, leaves, is) e =
     let put : Put = takes_over (take (length bytes - d) (drop d bytes)) n in
     let some : 0 < length (drop d bytes) = grind (arith, common_steps, lt) in
@@ -40,13 +42,19 @@ leads_more old new newer bytes d n lt (puts, leaves, is) e =
     )
 
 -- nothing is left
-pub leads_to_all : (old new : Option (List Put)) (bytes : List ℕ) (d : ℕ) → length bytes ≤ d → Leads old new bytes d → WritesBy old new bytes true
+pub leads_to_all : (old new : Option (List Put)) (bytes : List ℕ) (d : ℕ) → length bytes ≤ d → Leads old new bytes d →
+    WritesBy old new bytes true
 leads_to_all old new bytes d end (puts, leaves, is) =
     (puts, subst (λ (ps : List Put). HandsOver bytes ps true) (append-nil puts) (leaves [] true (drop_all d bytes end, refl)), is)
 
 -- a call failed
-pub leads_to_fault : (old new newer : Option (List Put)) (bytes : List ℕ) (d : ℕ) → d < length bytes → Leads old new bytes d → newer ≡ with_puts new (fails (take (length bytes - d) (drop d bytes)) ∷ []) → WritesBy old newer bytes false
+pub leads_to_fault : (old new newer : Option (List Put)) (bytes : List ℕ) (d : ℕ) → d < length bytes → Leads old new bytes d → newer ≡
+    with_puts new (fails (take (length bytes - d) (drop d bytes)) ∷ []) → WritesBy old newer bytes false
 leads_to_fault old new newer bytes d lt (puts, leaves, is) e =
     let put : Put = fails (take (length bytes - d) (drop d bytes)) in
-    let some : 0 < length (drop d bytes) = grind (arith, common_steps, lt) in
-    (puts ++ put ∷ [], leaves (put ∷ []) false (some, take_rest bytes d, refl, refl), e ∙ ap (λ told. with_puts told (put ∷ [])) is ∙ with_puts_more old puts (put ∷ []))
+    let some : 0 < length (drop d bytes) = grind (arith, common_steps, lt) in (
+      puts ++ put ∷ [],
+      leaves (put ∷ []) false (some, take_rest bytes d, refl, refl),
+      e ∙ ap (λ told. with_puts told (put ∷ [])) is ∙
+          with_puts_more old puts (put ∷ []),
+    )

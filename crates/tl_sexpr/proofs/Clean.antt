@@ -1,5 +1,6 @@
 -- No fault stands where items with gaps around them are.
-use Rattle.std.proofs.Common.{◌≡◌, ℕ, ◌+◌, ◌-◌, ◌<◌, ◌≤◌, List, [], ◌∷◌, length, slice_index, slice_range, true, false, inl, inr, refl, sym, ◌∙◌, ap, subst, arith, FitsSigned, w64}
+use Rattle.std.proofs.Common.{◌≡◌, ℕ, ◌+◌, ◌-◌, ◌<◌, ◌≤◌, List, [], ◌∷◌, length, slice_index, slice_range, true, false, inl, inr, refl, sym}
+use Rattle.std.proofs.Common.{◌∙◌, ap, subst, arith, FitsSigned, w64}
 use Rattle.std.proofs.lemmas.Bool.{cases_lt, false≢true}
 use Rattle.tl_sexpr.specs.declared.reader.OpenList.{OpenList}
 use Rattle.tl_sexpr.specs.Bytes.{is_blank, is_token_byte, IsInComment, StandsAt, IsTokenAt}
@@ -18,7 +19,8 @@ pub no_faults_join : (bytes : List ℕ) (from mid to : ℕ) → NoFaultIn bytes 
 no_faults_join bytes from mid to p q k low high = elim (cases_lt k mid) [ inl e ↦ p k low e | inr e ↦ q k e high ]
 
 -- a byte that stands outside comments at an offset of a gap is a blank
-blank_in_gap : (bytes : List ℕ) (from to k : ℕ) → IsGap bytes from to → from ≤ k → k < to → ¬ IsInComment bytes k → is_blank (slice_index bytes k) ≡ true
+blank_in_gap : (bytes : List ℕ) (from to k : ℕ) → IsGap bytes from to → from ≤ k → k < to → ¬ IsInComment bytes k →
+    is_blank (slice_index bytes k) ≡ true
 blank_in_gap bytes from to k gap low high outside =
     elim (gap.skipped k low high) [ inl blank ↦ blank | inr comment ↦ absurd (outside comment) ]
 
@@ -32,10 +34,12 @@ no_token_in_gap bytes from to k gap low high token =
     false≢true (sym (blank_is_plain (slice_index bytes k) (blank_in_gap bytes from to k gap low high token.outside)).0 ∙ token.token_byte)
 
 pub no_fault_in_gap : (bytes : List ℕ) (from to : ℕ) → IsGap bytes from to → NoFaultIn bytes from to
-no_fault_in_gap bytes from to gap k low high (bad_byte b) = false≢true (sym b.no_blank ∙ blank_in_gap bytes from to k gap low high b.outside)
+no_fault_in_gap bytes from to gap k low high (bad_byte b) = false≢true
+    (sym b.no_blank ∙ blank_in_gap bytes from to k gap low high b.outside)
 no_fault_in_gap bytes from to gap k low high (stray_close b) = not_in_gap bytes from to k 41 gap low high refl b.close
 no_fault_in_gap bytes from to gap k low high (too_deep b) = not_in_gap bytes from to k 40 gap low high refl b.open_list
-no_fault_in_gap bytes from to gap k low high (big_integer b) = no_token_in_gap bytes from to k gap low high (b.token.each k (omega arith) (b.token.some))
+no_fault_in_gap bytes from to gap k low high (big_integer b) = no_token_in_gap bytes from to k gap low high
+    (b.token.each k (omega arith) (b.token.some))
 
 -- a byte that no token holds stands at no offset of a token
 pub not_in_token : (bytes : List ℕ) (k c : ℕ) → IsTokenAt bytes k → is_token_byte c ≡ false → ¬ StandsAt bytes k c
@@ -55,11 +59,13 @@ one_token_end bytes from to end p q =
 pub one_token_start : (bytes : List ℕ) (from to k end : ℕ) → IsToken bytes from to → from ≤ k → k < to → IsToken bytes k end → k ≡ from
 one_token_start bytes from to k end p low high q =
     elim (cases_lt from k) [
-      | inl e ↦ (let before : (k - 1) + 1 ≡ k = omega arith in absurd (q.starts (k - 1) before (p.each (k - 1) (omega arith) (omega arith))))
+      | inl e ↦ (let before : (k - 1) + 1 ≡ k = omega arith in absurd (q.starts (k - 1) before
+          (p.each (k - 1) (omega arith) (omega arith))))
       | inr e ↦ omega arith
     ]
 
-no_fault_in_token : (bytes : List ℕ) (from to : ℕ) → IsToken bytes from to → ¬ IsTooBig (slice_range bytes from to) → NoFaultIn bytes from to
+no_fault_in_token : (bytes : List ℕ) (from to : ℕ) → IsToken bytes from to → ¬ IsTooBig (slice_range bytes from to) →
+    NoFaultIn bytes from to
 no_fault_in_token bytes from to token fits k low high (bad_byte b) = false≢true (sym b.no_token_byte ∙ (token.each k low high).token_byte)
 no_fault_in_token bytes from to token fits k low high (stray_close b) = not_in_token bytes k 41 (token.each k low high) refl b.close
 no_fault_in_token bytes from to token fits k low high (too_deep b) = not_in_token bytes k 40 (token.each k low high) refl b.open_list
@@ -73,7 +79,8 @@ no_fault_at_open : (bytes : List ℕ) (k d : ℕ) → StandsAt bytes k 40 → Is
 no_fault_at_open bytes k d stands depth few (bad_byte b) = b.no_open stands.is
 no_fault_at_open bytes k d stands depth few (stray_close b) = not_both bytes k 40 41 (λ e. absurd (omega arith)) stands b.close
 no_fault_at_open bytes k d stands depth few (too_deep b) = let same = depth_unique bytes k d 100 depth b.depth in absurd (omega arith)
-no_fault_at_open bytes k d stands depth few (big_integer b) = not_in_token bytes k 40 (b.token.each k (omega arith) b.token.some) refl stands
+no_fault_at_open bytes k d stands depth few (big_integer b) = not_in_token bytes k 40
+    (b.token.each k (omega arith) b.token.some) refl stands
 
 no_fault_at_close : (bytes : List ℕ) (k d : ℕ) → StandsAt bytes k 41 → IsDepth bytes k (d + 1) → ¬ FaultAt bytes k
 no_fault_at_close bytes k d stands depth (bad_byte b) = b.no_close stands.is
@@ -87,7 +94,8 @@ pub record IsClean (bytes : List ℕ) (least from to depth : ℕ) : Type 0 where
   pub faultless : NoFaultIn bytes from to
   pub deep : (k : ℕ) → from ≤ k → k < to → (d : ℕ) → IsDepth bytes k d → least ≤ d
 
-pub clean_join : (bytes : List ℕ) (least from mid to d e : ℕ) → IsClean bytes least from mid d → IsClean bytes least mid to e → IsClean bytes least from to e
+pub clean_join : (bytes : List ℕ) (least from mid to d e : ℕ) → IsClean bytes least from mid d → IsClean bytes least mid to e →
+    IsClean bytes least from to e
 clean_join bytes least from mid to d e p q = record {
   at_end = q.at_end;
   faultless = no_faults_join bytes from mid to p.faultless q.faultless;
@@ -95,24 +103,34 @@ clean_join bytes least from mid to d e p q = record {
 }
 
 -- a range with no parenthesis
-clean_flat : (bytes : List ℕ) (from to d : ℕ) → from ≤ to → IsDepth bytes from d → NoParenthesis bytes from to → NoFaultIn bytes from to → IsClean bytes d from to d
+clean_flat : (bytes : List ℕ) (from to d : ℕ) → from ≤ to → IsDepth bytes from d → NoParenthesis bytes from to → NoFaultIn bytes from to →
+    IsClean bytes d from to d
 clean_flat bytes from to d ordered depth none faultless = record {
   at_end = depth_same bytes from to d ordered depth none;
   faultless = faultless;
-  deep = λ k low high e p. let same = depth_unique bytes k d e (depth_same bytes from k d low depth (λ j after before. none j after (omega arith))) p in omega arith;
+  deep = λ k low high e p. let same = depth_unique bytes k d e (depth_same bytes from k d low depth
+      (λ j after before. none j after (omega arith))) p in omega arith;
 }
 
 clean_gap : (bytes : List ℕ) (from to d : ℕ) → IsGap bytes from to → IsDepth bytes from d → IsClean bytes d from to d
 clean_gap bytes from to d gap depth =
-    clean_flat bytes from to d gap.ordered depth (λ k low high. (not_in_gap bytes from to k 40 gap low high refl, not_in_gap bytes from to k 41 gap low high refl)) (no_fault_in_gap bytes from to gap)
+    clean_flat bytes from to d gap.ordered depth (λ k low high. (
+      not_in_gap bytes from to k 40 gap low high refl,
+      not_in_gap bytes from to k 41 gap low high refl,
+    )) (no_fault_in_gap bytes from to gap)
 
-clean_token : (bytes : List ℕ) (from to d : ℕ) → IsToken bytes from to → ¬ IsTooBig (slice_range bytes from to) → IsDepth bytes from d → IsClean bytes d from to d
+clean_token : (bytes : List ℕ) (from to d : ℕ) → IsToken bytes from to → ¬ IsTooBig (slice_range bytes from to) → IsDepth bytes from d →
+    IsClean bytes d from to d
 clean_token bytes from to d token fits depth =
     let some = token.some in
-    clean_flat bytes from to d (omega arith) depth (λ k low high. (not_in_token bytes k 40 (token.each k low high) refl, not_in_token bytes k 41 (token.each k low high) refl)) (no_fault_in_token bytes from to token fits)
+    clean_flat bytes from to d (omega arith) depth (λ k low high. (
+      not_in_token bytes k 40 (token.each k low high) refl,
+      not_in_token bytes k 41 (token.each k low high) refl,
+    )) (no_fault_in_token bytes from to token fits)
 
 -- a `(` and what stands after it
-clean_open : (bytes : List ℕ) (from to d e : ℕ) → StandsAt bytes from 40 → d < 100 → IsDepth bytes from d → IsClean bytes (d + 1) (from + 1) to e → IsClean bytes d from to e
+clean_open : (bytes : List ℕ) (from to d e : ℕ) → StandsAt bytes from 40 → d < 100 → IsDepth bytes from d →
+    IsClean bytes (d + 1) (from + 1) to e → IsClean bytes d from to e
 clean_open bytes from to d e stands few depth inside = record {
   at_end = inside.at_end;
   faultless = λ k low high. elim (cases_lt from k) [
@@ -121,21 +139,25 @@ clean_open bytes from to d e stands few depth inside = record {
   ];
   deep = λ k low high n p. elim (cases_lt from k) [
     | inl l ↦ (let deeper = inside.deep k (omega arith) high n p in omega arith)
-    | inr l ↦ (let here : from ≡ k = omega arith in let same = depth_unique bytes k d n (subst (λ i. IsDepth bytes i d) here depth) p in omega arith)
+    | inr l ↦ (let here : from ≡ k = omega arith in let same = depth_unique bytes k d n (subst (λ i. IsDepth bytes i d) here depth) p in
+        omega arith)
   ];
 }
 
 -- a `)` and what stands before it
-clean_close : (bytes : List ℕ) (from close d : ℕ) → StandsAt bytes close 41 → IsClean bytes d from close (d + 1) → IsClean bytes d from (close + 1) d
+clean_close : (bytes : List ℕ) (from close d : ℕ) → StandsAt bytes close 41 → IsClean bytes d from close (d + 1) →
+    IsClean bytes d from (close + 1) d
 clean_close bytes from close d stands inside = record {
   at_end = depth_after_close bytes close d inside.at_end stands;
   faultless = λ k low high. elim (cases_lt k close) [
     | inl l ↦ inside.faultless k low l
-    | inr l ↦ (let same : close ≡ k = omega arith in subst (λ n. ¬ FaultAt bytes n) same (no_fault_at_close bytes close d stands inside.at_end))
+    | inr l ↦ (let same : close ≡ k = omega arith in subst (λ n. ¬ FaultAt bytes n) same
+        (no_fault_at_close bytes close d stands inside.at_end))
   ];
   deep = λ k low high n p. elim (cases_lt k close) [
     | inl l ↦ inside.deep k low l n p
-    | inr l ↦ (let here : close ≡ k = omega arith in let same = depth_unique bytes k (d + 1) n (subst (λ i. IsDepth bytes i (d + 1)) here inside.at_end) p in omega arith)
+    | inr l ↦ (let here : close ≡ k = omega arith in let same = depth_unique bytes k (d + 1) n
+        (subst (λ i. IsDepth bytes i (d + 1)) here inside.at_end) p in omega arith)
   ];
 }
 
@@ -146,16 +168,20 @@ fits_by_symbol text fails big = false≢true (sym fails ∙ big.whole_number)
 mutual
   unfolding IsItem AreItems
 
-  pub clean_item : (bytes : List ℕ) (around from to : ℕ) (f : FormTree) → IsItem bytes around from to f → IsDepth bytes from around → IsClean bytes around from to around
-  clean_item bytes around from to (symbol text at) h depth = clean_token bytes from to around h.1 (fits_by_symbol (slice_range bytes from to) h.3) depth
+  pub clean_item : (bytes : List ℕ) (around from to : ℕ) (f : FormTree) → IsItem bytes around from to f → IsDepth bytes from around →
+      IsClean bytes around from to around
+  clean_item bytes around from to (symbol text at) h depth = clean_token bytes from to around h.1
+      (fits_by_symbol (slice_range bytes from to) h.3) depth
   clean_item bytes around from to (integer z at) h depth =
       clean_token bytes from to around h.1 (λ big. big.too_big (subst (λ n. FitsSigned w64 n) h.3 h.4)) depth
   clean_item bytes around from to (list fs at) h depth =
       let close = h.3.0 in
       let inner = clean_items bytes (around + 1) (from + 1) close fs h.3.3 (depth_after_open bytes from around depth h.2) in
-      subst (λ n. IsClean bytes around from n around) (sym h.3.1) (clean_close bytes from close around h.3.2 (clean_open bytes from close around (around + 1) h.2 h.1 depth inner))
+      subst (λ n. IsClean bytes around from n around) (sym h.3.1) (clean_close bytes from close around h.3.2
+      (clean_open bytes from close around (around + 1) h.2 h.1 depth inner))
 
-  pub clean_items : (bytes : List ℕ) (around from to : ℕ) (fs : FormTrees) → AreItems bytes around from to fs → IsDepth bytes from around → IsClean bytes around from to around
+  pub clean_items : (bytes : List ℕ) (around from to : ℕ) (fs : FormTrees) → AreItems bytes around from to fs → IsDepth bytes from around →
+      IsClean bytes around from to around
   clean_items bytes around from to no_form h depth = clean_gap bytes from to around h depth
   clean_items bytes around from to (more_forms f fs) h depth =
       let gap = clean_gap bytes from h.0 around h.2 depth in
@@ -163,7 +189,8 @@ mutual
       let rest = clean_items bytes around h.1 to fs h.4 first.at_end in
       clean_join bytes around from h.0 to around around gap (clean_join bytes around h.0 h.1 to around around first rest)
 
-pub clean_nested : (bytes : List ℕ) (around from at : ℕ) (os : List OpenList) (forms : FormTrees) → Nested bytes around from os forms at → IsDepth bytes from around → IsClean bytes around from at (around + length os)
+pub clean_nested : (bytes : List ℕ) (around from at : ℕ) (os : List OpenList) (forms : FormTrees) → Nested bytes around from os forms at →
+    IsDepth bytes from around → IsClean bytes around from at (around + length os)
 unfolding Nested
 clean_nested bytes around from at [] forms h depth =
     let e : around ≡ around + 0 = omega arith in
@@ -172,5 +199,6 @@ clean_nested bytes around from at (o ∷ os) forms h depth =
     let before = clean_items bytes around from o.at (trees_of o.forms) h.0 depth in
     let inside = clean_nested bytes (around + 1) (o.at + 1) at os forms h.3 (depth_after_open bytes o.at around before.at_end h.2) in
     let e : around + 1 + length os ≡ around + length (o ∷ os) = omega arith in
-    let all = clean_join bytes around from o.at at around (around + 1 + length os) before (clean_open bytes o.at at around (around + 1 + length os) h.2 h.1 before.at_end inside) in
+    let all = clean_join bytes around from o.at at around (around + 1 + length os) before
+    (clean_open bytes o.at at around (around + 1 + length os) h.2 h.1 before.at_end inside) in
     subst (λ n. IsClean bytes around from at n) e all

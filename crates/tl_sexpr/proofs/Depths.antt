@@ -19,7 +19,8 @@ count_same : (bytes : List ℕ) (c k x : ℕ) → IsCount bytes c k x → ¬ Sta
 unfolding IsCount
 count_same bytes c k x p other = rw (add-one k) (inr (other, p))
 
-count_along : (bytes : List ℕ) (c from x d : ℕ) → IsCount bytes c from x → ((k : ℕ) → from ≤ k → k < from + d → ¬ StandsAt bytes k c) → IsCount bytes c (from + d) x
+count_along : (bytes : List ℕ) (c from x d : ℕ) → IsCount bytes c from x → ((k : ℕ) → from ≤ k → k < from + d → ¬ StandsAt bytes k c) →
+    IsCount bytes c (from + d) x
 count_along bytes c from x zero p other = rw (add-zero from) p
 count_along bytes c from x (suc d) p other =
     let shorter = count_along bytes c from x d p (λ k low high. other k low (omega arith)) in
@@ -46,8 +47,10 @@ depth_same bytes from to d ordered p none =
     record {
       opens = p.opens;
       closes = p.closes;
-      opened = subst (λ n. IsCount bytes 40 n p.opens) e (count_along bytes 40 from p.opens (to - from) p.opened (λ k low high. (none k low (omega arith)).0));
-      closed = subst (λ n. IsCount bytes 41 n p.closes) e (count_along bytes 41 from p.closes (to - from) p.closed (λ k low high. (none k low (omega arith)).1));
+      opened = subst (λ n. IsCount bytes 40 n p.opens) e (count_along bytes 40 from p.opens (to - from) p.opened
+          (λ k low high. (none k low (omega arith)).0));
+      closed = subst (λ n. IsCount bytes 41 n p.closes) e (count_along bytes 41 from p.closes (to - from) p.closed
+          (λ k low high. (none k low (omega arith)).1));
       more = p.more;
     }
 

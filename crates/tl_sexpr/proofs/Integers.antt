@@ -1,5 +1,6 @@
 -- The text of an integer, as `parse` reads it and as the spelling says it.
-use Rattle.std.proofs.Common.{◌≡◌, ℕ, Bool, true, false, eqb, nat_lt, List, [], ◌∷◌, length, ℤ, FitsSigned, inl, inr, refl, sym, ◌∙◌, subst, arith, w64, ltb-true, ne_eqb, lt-ltb, ◌&&◌, ◌==◌}
+use Rattle.std.proofs.Common.{◌≡◌, ℕ, Bool, true, false, eqb, nat_lt, List, [], ◌∷◌, length, ℤ, FitsSigned, inl, inr, refl, sym, ◌∙◌, subst}
+use Rattle.std.proofs.Common.{arith, w64, ltb-true, ne_eqb, lt-ltb, ◌&&◌, ◌==◌}
 use Rattle.std.proofs.lemmas.Bool.{cases_Bool, and_parts, false≢true, eqb-false}
 use Rattle.std.proofs.lemmas.List.Recursion.{same_from_clauses}
 use Rattle.std.specs.Char.{is_ascii_digit}
@@ -42,7 +43,8 @@ abbrev pub IsReadable : List ℕ → Type 0
 IsReadable text = IsNumeral 10 (without_leading_sign text) × FitsSigned w64 (signed_digits_value 10 text)
 
 -- the form of an integer that was read
-pub integer_form : (text : List ℕ) (at : ℕ) (z : ℤ) → spells_integer text ≡ true → IsReadable text × (z ≡ signed_digits_value 10 text) → IsTokenForm text at (integer z at)
+pub integer_form : (text : List ℕ) (at : ℕ) (z : ℤ) → spells_integer text ≡ true → IsReadable text × (z ≡ signed_digits_value 10 text) →
+    IsTokenForm text at (integer z at)
 integer_form text at z h p =
     let same = (reads_as_spelled text h).1 in
     (refl, h, p.1 ∙ same, subst (λ (n : ℤ). FitsSigned w64 n) (sym p.1) p.0.1)
@@ -65,5 +67,6 @@ pub numeral_by_test : (text : List ℕ) (r : Bool) → r ≡ list_all is_ascii_d
 numeral_by_test text r all not_empty =
     let apart = eqb-false (length text) 0 not_empty in
     let some : nat_lt 0 (length text) ≡ true = lt-ltb 0 (length text) (omega arith) in
-    let same : list_all is_ascii_digit text ≡ all_ascii_digits text = same_from_clauses (list_all is_ascii_digit) all_ascii_digits (λ x r. is_ascii_digit x && r) refl (λ _ _. refl) (λ _ _. refl) text in
+    let same : list_all is_ascii_digit text ≡ all_ascii_digits text = same_from_clauses (list_all is_ascii_digit) all_ascii_digits
+    (λ x r. is_ascii_digit x && r) refl (λ _ _. refl) (λ _ _. refl) text in
     rw some (all ∙ (same ∙ and_true (all_ascii_digits text)))

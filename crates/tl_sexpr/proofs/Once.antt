@@ -1,5 +1,6 @@
 -- Bytes spell at most one list of forms.
-use Rattle.std.proofs.Common.{◌≡◌, ℕ, ◌+◌, ◌<◌, ◌≤◌, ◌⊎◌, List, length, slice_range, true, false, inl, inr, refl, sym, ◌∙◌, ap, ap₂, subst, arith}
+use Rattle.std.proofs.Common.{◌≡◌, ℕ, ◌+◌, ◌<◌, ◌≤◌, ◌⊎◌, List, length, slice_range, true, false, inl, inr, refl, sym, ◌∙◌, ap, ap₂, subst}
+use Rattle.std.proofs.Common.{arith}
 use Rattle.std.proofs.lemmas.Bool.{cases_lt, false≢true}
 use Rattle.tl_sexpr.specs.Bytes.{StandsAt, IsTokenAt}
 use Rattle.tl_sexpr.specs.Spelling.{IsGap, IsToken, IsItem, AreItems, Spells, spells_integer, integer_value}
@@ -67,7 +68,8 @@ end_or_item bytes from to first g h e b =
     ]
 
 -- two gaps from one offset, each up to an item
-one_first : (bytes : List ℕ) (from first other : ℕ) → IsGap bytes from first → IsGap bytes from other → Begins bytes first → Begins bytes other → first ≡ other
+one_first : (bytes : List ℕ) (from first other : ℕ) → IsGap bytes from first → IsGap bytes from other → Begins bytes first →
+    Begins bytes other → first ≡ other
 one_first bytes from first other g h b c =
     elim (cases_lt first other) [
       | inl l ↦ absurd (begin_not_in_gap bytes from other first h g.ordered l b)
@@ -78,9 +80,11 @@ one_first bytes from first other g h b c =
     ]
 
 token_or_list : (bytes : List ℕ) (from to : ℕ) → IsToken bytes from to → StandsAt bytes from 40 → ⊥
-token_or_list bytes from to token stands = let some = token.some in not_in_token bytes from 40 (token.each from (omega arith) some) refl stands
+token_or_list bytes from to token stands = let some = token.some in not_in_token bytes from 40
+    (token.each from (omega arith) some) refl stands
 
-symbol_or_integer : (bytes : List ℕ) (from to end : ℕ) → IsToken bytes from to → IsToken bytes from end → spells_integer (slice_range bytes from to) ≡ false → spells_integer (slice_range bytes from end) ≡ true → ⊥
+symbol_or_integer : (bytes : List ℕ) (from to end : ℕ) → IsToken bytes from to → IsToken bytes from end →
+    spells_integer (slice_range bytes from to) ≡ false → spells_integer (slice_range bytes from end) ≡ true → ⊥
 symbol_or_integer bytes from to end p q fails passes =
     let same = one_token_end bytes from to end p q in
     false≢true (sym fails ∙ (ap (λ n. spells_integer (slice_range bytes from n)) same ∙ passes))
@@ -88,7 +92,8 @@ symbol_or_integer bytes from to end p q fails passes =
 mutual
   unfolding IsItem AreItems
 
-  one_item : (bytes : List ℕ) (around from to end : ℕ) (f g : FormTree) → IsItem bytes around from to f → IsItem bytes around from end g → (to ≡ end) × (f ≡ g)
+  one_item : (bytes : List ℕ) (around from to end : ℕ) (f g : FormTree) → IsItem bytes around from to f → IsItem bytes around from end g →
+      (to ≡ end) × (f ≡ g)
   one_item bytes around from to end (symbol s i) (symbol t j) p q =
       let same = one_token_end bytes from to end p.1 q.1 in
       let texts : s ≡ t = p.2 ∙ (ap (slice_range bytes from) same ∙ sym q.2) in
@@ -107,12 +112,16 @@ mutual
       let inner = one_items bytes (around + 1) (from + 1) p.3.0 q.3.0 fs gs (inl p.3.2) (inl q.3.2) p.3.3 q.3.3 in
       (p.3.1 ∙ (ap (λ n. n + 1) inner.0 ∙ sym q.3.1), ap₂ list inner.1 (p.0 ∙ sym q.0))
 
-  one_items : (bytes : List ℕ) (around from to end : ℕ) (fs gs : FormTrees) → IsEnd bytes to → IsEnd bytes end → AreItems bytes around from to fs → AreItems bytes around from end gs → (to ≡ end) × (fs ≡ gs)
+  one_items : (bytes : List ℕ) (around from to end : ℕ) (fs gs : FormTrees) → IsEnd bytes to → IsEnd bytes end →
+      AreItems bytes around from to fs → AreItems bytes around from end gs → (to ≡ end) × (fs ≡ gs)
   one_items bytes around from to end no_form no_form e d p q = (one_end bytes from to end p q e d, refl)
-  one_items bytes around from to end no_form (more_forms g gs) e d p q = absurd (end_or_item bytes from to q.0 p q.2 e (first_of_item bytes around q.0 q.1 g q.3))
-  one_items bytes around from to end (more_forms f fs) no_form e d p q = absurd (end_or_item bytes from end p.0 q p.2 d (first_of_item bytes around p.0 p.1 f p.3))
+  one_items bytes around from to end no_form (more_forms g gs) e d p q =
+      absurd (end_or_item bytes from to q.0 p q.2 e (first_of_item bytes around q.0 q.1 g q.3))
+  one_items bytes around from to end (more_forms f fs) no_form e d p q =
+      absurd (end_or_item bytes from end p.0 q p.2 d (first_of_item bytes around p.0 p.1 f p.3))
   one_items bytes around from to end (more_forms f fs) (more_forms g gs) e d p q =
-      let first = one_first bytes from p.0 q.0 p.2 q.2 (first_of_item bytes around p.0 p.1 f p.3) (first_of_item bytes around q.0 q.1 g q.3) in
+      let first = one_first bytes from p.0 q.0 p.2 q.2 (first_of_item bytes around p.0 p.1 f p.3)
+      (first_of_item bytes around q.0 q.1 g q.3) in
       let item = one_item bytes around q.0 p.1 q.1 f g (subst (λ n. IsItem bytes around n p.1 f) first p.3) q.3 in
       let rest = one_items bytes around q.1 to end fs gs e d (subst (λ n. AreItems bytes around n to fs) item.0 p.4) q.4 in
       (rest.0, ap₂ more_forms item.1 rest.1)

@@ -1,5 +1,6 @@
 -- A fact that holds of each number of a range.
-use Rattle.std.proofs.Common.{◌≡◌, ℕ, ◌+◌, ◌-◌, ◌<◌, ◌≤◌, List, [], ◌∷◌, length, slice_index, slice_range, slice_get, Some, inl, inr, sym, subst, arith}
+use Rattle.std.proofs.Common.{◌≡◌, ℕ, ◌+◌, ◌-◌, ◌<◌, ◌≤◌, List, [], ◌∷◌, length, slice_index, slice_range, slice_get, Some, inl, inr, sym}
+use Rattle.std.proofs.Common.{subst, arith}
 use Rattle.std.proofs.lemmas.Bool.{cases_lt}
 use Rattle.std.proofs.lemmas.List.Edits.{length-between, get_or-between}
 
@@ -13,7 +14,8 @@ more_in_range P from to below here k low high =
     elim (cases_lt k to) [ inl h ↦ below k low h | inr h ↦ (let e : to ≡ k = omega arith in subst P e here) ]
 
 -- what holds of each byte of a range holds of each byte of that part
-pub each_of_part : (P : ℕ → Type 0) (xs : List ℕ) (from to : ℕ) → to ≤ length xs → ((k : ℕ) → from ≤ k → k < to → P (slice_index xs k)) → (k : ℕ) → k < length (slice_range xs from to) → P (slice_index (slice_range xs from to) k)
+pub each_of_part : (P : ℕ → Type 0) (xs : List ℕ) (from to : ℕ) → to ≤ length xs → ((k : ℕ) → from ≤ k → k < to → P (slice_index xs k)) →
+    (k : ℕ) → k < length (slice_range xs from to) → P (slice_index (slice_range xs from to) k)
 each_of_part P xs from to bounded each k h =
     let long : length (slice_range xs from to) ≡ to - from = length-between xs from to bounded in
     subst P (sym (get_or-between xs from to k 0 (omega arith))) (each (from + k) (omega arith) (omega arith))

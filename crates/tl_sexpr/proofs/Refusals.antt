@@ -1,5 +1,6 @@
 -- The faults that the reader tells, and that it tells nothing else.
-use Rattle.std.proofs.Common.{◌≡◌, ◌≢◌, ℕ, ◌+◌, ◌<◌, ◌≤◌, ◌⊎◌, List, [], ◌∷◌, length, slice_index, slice_range, IsTrue, false, inl, inr, refl, sym, ap, subst, arith, Result, Ok, Err, IfOk, IfErr, IsErrAnd, MatchResult}
+use Rattle.std.proofs.Common.{◌≡◌, ◌≢◌, ℕ, ◌+◌, ◌<◌, ◌≤◌, ◌⊎◌, List, [], ◌∷◌, length, slice_index, slice_range, IsTrue, false, inl, inr}
+use Rattle.std.proofs.Common.{refl, sym, ap, subst, arith, Result, Ok, Err, IfOk, IfErr, IsErrAnd, MatchResult}
 use Rattle.tl_sexpr.specs.declared.fault.TextFault.{TextFault}
 use Rattle.tl_sexpr.specs.declared.fault.TextFault.TheVariants.{BadByte, StrayClose, TooDeep, BigInteger, NoMemory}
 use Rattle.tl_sexpr.specs.declared.form.Forms.{Forms}
@@ -25,9 +26,12 @@ faultless : (bytes : List ℕ) (r : Reader) (at : ℕ) → IsRead bytes r at →
 faultless bytes r at read k high = (clean bytes r at read).faultless k (omega arith) high
 
 depth_is : (bytes : List ℕ) (r : Reader) (at d : ℕ) → IsRead bytes r at → length r.open.items ≡ d → IsDepth bytes at d
-depth_is bytes r at d read e = let same : 0 + length r.open.items ≡ d = omega (arith, e) in subst (IsDepth bytes at) same (clean bytes r at read).at_end
+depth_is bytes r at d read e = let same : 0 + length r.open.items ≡ d = omega (arith, e) in
+    subst (IsDepth bytes at) same (clean bytes r at read).at_end
 
-pub refuses_byte : (bytes : List ℕ) (r : Reader) (at : ℕ) → IsRead bytes r at → at < length bytes → is_blank (slice_index bytes at) ≡ false → is_token_byte (slice_index bytes at) ≡ false → slice_index bytes at ≢ 59 → slice_index bytes at ≢ 40 → slice_index bytes at ≢ 41 → IsFaultOf bytes (BadByte at)
+pub refuses_byte : (bytes : List ℕ) (r : Reader) (at : ℕ) → IsRead bytes r at → at < length bytes → is_blank (slice_index bytes at) ≡
+    false → is_token_byte (slice_index bytes at) ≡ false → slice_index bytes at ≢ 59 → slice_index bytes at ≢ 40 →
+    slice_index bytes at ≢ 41 → IsFaultOf bytes (BadByte at)
 refuses_byte bytes r at read within no_blank no_token_byte no_comment no_open no_close = (
   record {
     within = within;
@@ -40,7 +44,8 @@ refuses_byte bytes r at read within no_blank no_token_byte no_comment no_open no
   faultless bytes r at read,
 )
 
-refuses_close : (bytes : List ℕ) (r : Reader) (at : ℕ) → IsRead bytes r at → at < length bytes → slice_index bytes at ≡ 41 → r.open.items ≡ [] → IsFaultOf bytes (StrayClose at)
+refuses_close : (bytes : List ℕ) (r : Reader) (at : ℕ) → IsRead bytes r at → at < length bytes → slice_index bytes at ≡ 41 → r.open.items ≡
+    [] → IsFaultOf bytes (StrayClose at)
 refuses_close bytes r at read within is none_open = (
   record {
     close = stands_here bytes at 41 read.start within is (close_is_plain 41 refl);
@@ -49,7 +54,8 @@ refuses_close bytes r at read within is none_open = (
   faultless bytes r at read,
 )
 
-pub refuses_open : (bytes : List ℕ) (r : Reader) (at : ℕ) → IsRead bytes r at → at < length bytes → slice_index bytes at ≡ 40 → 100 ≤ length r.open.items → IsFaultOf bytes (TooDeep at)
+pub refuses_open : (bytes : List ℕ) (r : Reader) (at : ℕ) → IsRead bytes r at → at < length bytes → slice_index bytes at ≡ 40 →
+    100 ≤ length r.open.items → IsFaultOf bytes (TooDeep at)
 refuses_open bytes r at read within is many = (
   record {
     open_list = stands_here bytes at 40 read.start within is (open_is_plain 40 refl);
@@ -58,7 +64,10 @@ refuses_open bytes r at read within is many = (
   faultless bytes r at read,
 )
 
-refuses_integer : (bytes : List ℕ) (r : Reader) (at end : ℕ) → IsRead bytes r at → at < end → end ≤ length bytes → ((k : ℕ) → at ≤ k → k < end → IsTrue (is_token_byte (slice_index bytes k))) → (end < length bytes → is_token_byte (slice_index bytes end) ≡ false) → IsTooBig (slice_range bytes at end) → IsFaultOf bytes (BigInteger at)
+refuses_integer : (bytes : List ℕ) (r : Reader) (at end : ℕ) → IsRead bytes r at → at < end → end ≤ length bytes →
+    ((k : ℕ) → at ≤ k → k < end → IsTrue (is_token_byte (slice_index bytes k))) →
+    (end < length bytes → is_token_byte (slice_index bytes end) ≡ false) → IsTooBig (slice_range bytes at end) →
+    IsFaultOf bytes (BigInteger at)
 refuses_integer bytes r at end read some bounded each longest big = (
   record {
     end = end;
@@ -72,38 +81,50 @@ refuses_integer bytes r at end read some bounded each longest big = (
 abbrev pub IsTold : List ℕ → TextFault → Type 0
 IsTold bytes fault = (fault ≡ NoMemory) ⊎ IsFaultOf bytes fault
 
-pub refused_close : (bytes : List ℕ) (r : Reader) (at : ℕ) (fault : TextFault) → IsRead bytes r at → at < length bytes → slice_index bytes at ≡ 41 → (fault ≡ NoMemory) ⊎ ((fault ≡ StrayClose at) × (r.open.items ≡ [])) → IsTold bytes fault
+pub refused_close : (bytes : List ℕ) (r : Reader) (at : ℕ) (fault : TextFault) → IsRead bytes r at → at < length bytes →
+    slice_index bytes at ≡ 41 → (fault ≡ NoMemory) ⊎ ((fault ≡ StrayClose at) × (r.open.items ≡ [])) → IsTold bytes fault
 refused_close bytes r at fault read within is (inl e) = inl e
-refused_close bytes r at fault read within is (inr told) = inr (subst (IsFaultOf bytes) (sym told.0) (refuses_close bytes r at read within is told.1))
+refused_close bytes r at fault read within is (inr told) = inr (subst (IsFaultOf bytes) (sym told.0)
+    (refuses_close bytes r at read within is told.1))
 
-pub refused_integer : (bytes : List ℕ) (r : Reader) (at end : ℕ) (fault : TextFault) → IsRead bytes r at → at < end → end ≤ length bytes → ((k : ℕ) → at ≤ k → k < end → IsTrue (is_token_byte (slice_index bytes k))) → (end < length bytes → is_token_byte (slice_index bytes end) ≡ false) → (fault ≡ NoMemory) ⊎ ((fault ≡ BigInteger at) × IsTooBig (slice_range bytes at end)) → IsTold bytes fault
+pub refused_integer : (bytes : List ℕ) (r : Reader) (at end : ℕ) (fault : TextFault) → IsRead bytes r at → at < end → end ≤ length bytes →
+    ((k : ℕ) → at ≤ k → k < end → IsTrue (is_token_byte (slice_index bytes k))) →
+    (end < length bytes → is_token_byte (slice_index bytes end) ≡ false) → (fault ≡ NoMemory) ⊎
+    ((fault ≡ BigInteger at) × IsTooBig (slice_range bytes at end)) → IsTold bytes fault
 refused_integer bytes r at end fault read some bounded each longest (inl e) = inl e
-refused_integer bytes r at end fault read some bounded each longest (inr told) = inr (subst (IsFaultOf bytes) (sym told.0) (refuses_integer bytes r at end read some bounded each longest told.1))
+refused_integer bytes r at end fault read some bounded each longest (inr told) =
+    inr (subst (IsFaultOf bytes) (sym told.0) (refuses_integer bytes r at end read some bounded each longest told.1))
 
-refuses_end : (bytes : List ℕ) (r : Reader) (at : ℕ) (fault : TextFault) → IsRead bytes r at → length bytes ≤ at → IsOpenSince r fault → IsFaultOf bytes fault
+refuses_end : (bytes : List ℕ) (r : Reader) (at : ℕ) (fault : TextFault) → IsRead bytes r at → length bytes ≤ at → IsOpenSince r fault →
+    IsFaultOf bytes fault
 refuses_end bytes r at fault read end since =
     let same : at ≡ length bytes = omega (arith, read.start.within) in
     let nested = rw since.stack at read.nested in
-    rw since.told (unclosed bytes since.outermost since.rest (trees_of r.forms) (subst (λ n. Nested bytes 0 0 (since.outermost ∷ since.rest) (trees_of r.forms) n) same nested))
+    rw since.told (unclosed bytes since.outermost since.rest (trees_of r.forms)
+    (subst (λ n. Nested bytes 0 0 (since.outermost ∷ since.rest) (trees_of r.forms) n) same nested))
 
-pub fault_at_end : (bytes : List ℕ) (r : Reader) (at : ℕ) (result : Result Forms TextFault) → IsRead bytes r at → length bytes ≤ at → IfErr result (IsOpenSince r) → IfErr result (IsTold bytes)
+pub fault_at_end : (bytes : List ℕ) (r : Reader) (at : ℕ) (result : Result Forms TextFault) → IsRead bytes r at → length bytes ≤ at →
+    IfErr result (IsOpenSince r) → IfErr result (IsTold bytes)
 fault_at_end bytes r at (Ok forms) read end since = tt
 fault_at_end bytes r at (Err fault) read end since = inr (refuses_end bytes r at fault read end since)
 
 -- what a reader answers that tells only forms that are spelled and only the fault of the bytes
 module _ (bytes : List ℕ) where
-  pub reads_all : (result : Result Forms TextFault) → IfOk result (λ forms. Spells bytes (trees_of forms)) → IfErr result (IsTold bytes) → (forms : FormTrees) → Spells bytes forms → MatchResult result (λ read. trees_of read ≡ forms) (λ fault. fault ≡ NoMemory)
+  pub reads_all : (result : Result Forms TextFault) → IfOk result (λ forms. Spells bytes (trees_of forms)) → IfErr result (IsTold bytes) →
+      (forms : FormTrees) → Spells bytes forms → MatchResult result (λ read. trees_of read ≡ forms) (λ fault. fault ≡ NoMemory)
   reads_all (Ok read) spelled told forms spells = spelled_once bytes (trees_of read) forms spelled spells
   reads_all (Err fault) spelled (inl e) forms spells = e
   reads_all (Err fault) spelled (inr is) forms spells = absurd (no_fault_if_spelled bytes forms spells fault is)
 
-  pub refuses_all : (result : Result Forms TextFault) → IfOk result (λ forms. Spells bytes (trees_of forms)) → IfErr result (IsTold bytes) → (fault : TextFault) → IsFaultOf bytes fault → IsErrAnd result (λ told. (told ≡ fault) ⊎ (told ≡ NoMemory))
+  pub refuses_all : (result : Result Forms TextFault) → IfOk result (λ forms. Spells bytes (trees_of forms)) → IfErr result (IsTold bytes) →
+      (fault : TextFault) → IsFaultOf bytes fault → IsErrAnd result (λ told. (told ≡ fault) ⊎ (told ≡ NoMemory))
   refuses_all (Ok read) spelled told fault is = absurd (no_fault_if_spelled bytes (trees_of read) spelled fault is)
   refuses_all (Err f) spelled (inl e) fault is = inr e
   refuses_all (Err f) spelled (inr its) fault is = inl (one_fault bytes f fault its is)
 
 -- what holds of the fault that `?` hands on
-pub handed_on : {A : Type 0} (result : Result A TextFault) (fault : TextFault) (P : TextFault → Type 0) → IsErrAnd result (λ told. told ≡ fault) → P fault → IfErr result P
+pub handed_on : {A : Type 0} (result : Result A TextFault) (fault : TextFault) (P : TextFault → Type 0) →
+    IsErrAnd result (λ told. told ≡ fault) → P fault → IfErr result P
 handed_on (Ok x) fault P same h = absurd same
 handed_on (Err told) fault P same h = subst P (sym same) h
 
@@ -112,9 +133,12 @@ no_ok (Ok x) Q P is = absurd is
 no_ok (Err told) Q P is = tt
 
 -- the same of a reader that hands a fault on
-module _ (bytes : List ℕ) (result : Result Forms TextFault) (fault : TextFault) (same : IsErrAnd result (λ told. told ≡ fault)) (told : IsTold bytes fault) where
+module _ (bytes : List ℕ) (result : Result Forms TextFault) (fault : TextFault) (same : IsErrAnd result (λ told. told ≡ fault))
+    (told : IsTold bytes fault) where
   pub reads_on : (forms : FormTrees) → Spells bytes forms → MatchResult result (λ read. trees_of read ≡ forms) (λ fault. fault ≡ NoMemory)
-  reads_on = reads_all bytes result (no_ok result (λ f. f ≡ fault) (λ forms. Spells bytes (trees_of forms)) same) (handed_on result fault (IsTold bytes) same told)
+  reads_on = reads_all bytes result (no_ok result (λ f. f ≡ fault) (λ forms. Spells bytes (trees_of forms)) same)
+      (handed_on result fault (IsTold bytes) same told)
 
   pub refuses_on : (other : TextFault) → IsFaultOf bytes other → IsErrAnd result (λ f. (f ≡ other) ⊎ (f ≡ NoMemory))
-  refuses_on = refuses_all bytes result (no_ok result (λ f. f ≡ fault) (λ forms. Spells bytes (trees_of forms)) same) (handed_on result fault (IsTold bytes) same told)
+  refuses_on = refuses_all bytes result (no_ok result (λ f. f ≡ fault) (λ forms. Spells bytes (trees_of forms)) same)
+      (handed_on result fault (IsTold bytes) same told)

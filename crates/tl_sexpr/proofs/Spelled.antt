@@ -25,19 +25,23 @@ gaps_join bytes from mid to g h =
     }
 
 -- items with a longer gap after them
-pub items_longer : (bytes : List ℕ) (around from to end : ℕ) (fs : FormTrees) → AreItems bytes around from to fs → IsGap bytes to end → AreItems bytes around from end fs
+pub items_longer : (bytes : List ℕ) (around from to end : ℕ) (fs : FormTrees) → AreItems bytes around from to fs → IsGap bytes to end →
+    AreItems bytes around from end fs
 unfolding IsItem AreItems
 items_longer bytes around from to end no_form h gap = gaps_join bytes from to end h gap
 items_longer bytes around from to end (more_forms f fs) h gap = (h.0, h.1, h.2, h.3, items_longer bytes around h.1 to end fs h.4 gap)
 
 -- items with one more after them
-pub items_more : (bytes : List ℕ) (around from to end : ℕ) (fs : List FormTree) (f : FormTree) → AreItems bytes around from to (trees_of_list fs) → IsItem bytes around to end f → AreItems bytes around from end (trees_of_list (fs ++ f ∷ []))
+pub items_more : (bytes : List ℕ) (around from to end : ℕ) (fs : List FormTree) (f : FormTree) →
+    AreItems bytes around from to (trees_of_list fs) → IsItem bytes around to end f →
+    AreItems bytes around from end (trees_of_list (fs ++ f ∷ []))
 unfolding IsItem AreItems
 items_more bytes around from to end [] f h item = (to, end, h, item, no_gap bytes end)
 items_more bytes around from to end (g ∷ gs) f h item = (h.0, h.1, h.2, h.3, items_more bytes around h.1 to end gs f h.4 item)
 
 -- a token's form is an item
-pub item_of_token : (bytes : List ℕ) (around from to : ℕ) (f : FormTree) → IsToken bytes from to → IsTokenForm (slice_range bytes from to) from f → IsItem bytes around from to f
+pub item_of_token : (bytes : List ℕ) (around from to : ℕ) (f : FormTree) → IsToken bytes from to →
+    IsTokenForm (slice_range bytes from to) from f → IsItem bytes around from to f
 unfolding IsItem AreItems
 item_of_token bytes around from to (symbol text at) token form = (form.0, token, form.1, form.2)
 item_of_token bytes around from to (integer z at) token form = (form.0, token, form.1, form.2, form.3)

@@ -7,7 +7,8 @@ use Rattle.tl_sexpr.specs.Symbols.{IsSymbolText, HasSymbolTexts, HaveSymbolTexts
 use Rattle.tl_sexpr.specs.Tree.{FormTree, FormTrees, symbol, integer, list, no_form, more_forms}
 use Rattle.tl_sexpr.proofs.Ranges.{each_of_part}
 
-token_text : (bytes : List ℕ) (from to : ℕ) → IsToken bytes from to → spells_integer (slice_range bytes from to) ≡ false → IsSymbolText (slice_range bytes from to)
+token_text : (bytes : List ℕ) (from to : ℕ) → IsToken bytes from to → spells_integer (slice_range bytes from to) ≡ false →
+    IsSymbolText (slice_range bytes from to)
 token_text bytes from to t none =
     let some : from < to = t.some in
     let last : to - 1 < length bytes = (t.each (to - 1) (omega arith) (omega arith)).within in

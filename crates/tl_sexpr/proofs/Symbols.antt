@@ -15,7 +15,8 @@ mutual
       let inner = symbols_of_items bytes (around + 1) (from + 1) close fs h.3.3 in
       omega arith
 
-  pub symbols_of_items : (bytes : List ℕ) (around from to : ℕ) (fs : FormTrees) → AreItems bytes around from to fs → symbols_in_all fs + from ≤ to
+  pub symbols_of_items : (bytes : List ℕ) (around from to : ℕ) (fs : FormTrees) → AreItems bytes around from to fs →
+      symbols_in_all fs + from ≤ to
   symbols_of_items bytes around from to no_form h = let ordered = h.ordered in omega arith
   symbols_of_items bytes around from to (more_forms f fs) h =
       let gap = h.2.ordered in

@@ -1,5 +1,6 @@
 -- What the bytes of a token are not.
-use Rattle.std.proofs.Common.{◌≡◌, ℕ, ◌<◌, ◌≤◌, true, false, eqb, List, [], ◌∷◌, length, inl, inr, refl, sym, ◌∙◌, ap, subst, arith, codes, slice_index, IsTrue, eqb-true, ltb-true, ◌==◌, nat_lt, IsAscii, ◌||◌, nat_le, leb-true, eq-eqb}
+use Rattle.std.proofs.Common.{◌≡◌, ℕ, ◌<◌, ◌≤◌, true, false, eqb, List, [], ◌∷◌, length, inl, inr, refl, sym, ◌∙◌, ap, subst, arith, codes}
+use Rattle.std.proofs.Common.{slice_index, IsTrue, eqb-true, ltb-true, ◌==◌, nat_lt, IsAscii, ◌||◌, nat_le, leb-true, eq-eqb}
 use Rattle.std.proofs.lemmas.Bool.{cases_lt, or_cases, and_parts, false≢true}
 use Rattle.std.specs.List.{list_any, list_all}
 use Rattle.std.proofs.lemmas.List.{get_or_past}

@@ -13,7 +13,8 @@ use Rattle.tl_sexpr.specs.Tree.{FormTree, FormTrees, symbol, integer, list, tree
 -- no token and no comment goes on from before this position to the byte here, if there is one
 pub record IsStart (bytes : List ℕ) (at : ℕ) : Type 0 where
   pub within : at ≤ length bytes
-  pub comments_end : at < length bytes → (j : ℕ) → j < at → slice_index bytes j ≡ 59 → (m : ℕ) × (j < m) × (m < at) × (slice_index bytes m ≡ 10)
+  pub comments_end : at < length bytes → (j : ℕ) → j < at → slice_index bytes j ≡ 59 → (m : ℕ) × (j < m) × (m < at) ×
+      (slice_index bytes m ≡ 10)
   pub no_token_cut : (k : ℕ) → k + 1 ≡ at → IsTokenAt bytes k → ¬ IsTokenAt bytes at
 
 -- the bytes of the range are these open lists, from the outermost, each with its forms before the
@@ -21,7 +22,8 @@ pub record IsStart (bytes : List ℕ) (at : ℕ) : Type 0 where
 unfoldable pub Nested : List ℕ → ℕ → ℕ → List OpenList → FormTrees → ℕ → Type 0
 Nested bytes around from [] forms to = AreItems bytes around from to forms
 Nested bytes around from (o ∷ os) forms to =
-    AreItems bytes around from o.at (trees_of o.forms) × (around < 100) × StandsAt bytes o.at 40 × Nested bytes (around + 1) (o.at + 1) os forms to
+    AreItems bytes around from o.at (trees_of o.forms) × (around < 100) × StandsAt bytes o.at 40 ×
+    Nested bytes (around + 1) (o.at + 1) os forms to
 
 -- the bytes before this position were read
 pub record IsRead (bytes : List ℕ) (reader : Reader) (at : ℕ) : Type 0 where

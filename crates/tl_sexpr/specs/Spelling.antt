@@ -1,6 +1,7 @@
 -- What it means that bytes spell forms. Ranges of bytes go from their first byte to the one after
 -- their last.
-use Rattle.std.specs.Prelude.{◌≡◌, ℕ, ◌+◌, ◌<◌, ◌≤◌, ◌⊎◌, ℤ, pos, neg_ℤ, List, [], ◌∷◌, length, Bool, true, false, ◌&&◌, ◌==◌, nat_lt, if◌then◌else◌, IsTrue, slice_index, slice_range, FitsSigned}
+use Rattle.std.specs.Prelude.{◌≡◌, ℕ, ◌+◌, ◌<◌, ◌≤◌, ◌⊎◌, ℤ, pos, neg_ℤ, List, [], ◌∷◌, length, Bool, true, false, ◌&&◌, ◌==◌, nat_lt}
+use Rattle.std.specs.Prelude.{if◌then◌else◌, IsTrue, slice_index, slice_range, FitsSigned}
 use Rattle.std.specs.Int.{w64}
 use Rattle.std.specs.Str.{all_ascii_digits}
 use Rattle.std.specs.Str.Parse.{digits_value}
@@ -40,9 +41,11 @@ unfoldable mutual
   IsItem bytes around from to (symbol text at) =
       (at ≡ from) × IsToken bytes from to × (text ≡ slice_range bytes from to) × (spells_integer (slice_range bytes from to) ≡ false)
   IsItem bytes around from to (integer z at) =
-      (at ≡ from) × IsToken bytes from to × (spells_integer (slice_range bytes from to) ≡ true) × (z ≡ integer_value (slice_range bytes from to)) × FitsSigned w64 z
+      (at ≡ from) × IsToken bytes from to × (spells_integer (slice_range bytes from to) ≡ true) ×
+      (z ≡ integer_value (slice_range bytes from to)) × FitsSigned w64 z
   IsItem bytes around from to (list fs at) =
-      (at ≡ from) × (around < 100) × StandsAt bytes from 40 × ((close : ℕ) × (to ≡ close + 1) × StandsAt bytes close 41 × AreItems bytes (around + 1) (from + 1) close fs)
+      (at ≡ from) × (around < 100) × StandsAt bytes from 40 × ((close : ℕ) × (to ≡ close + 1) × StandsAt bytes close 41 ×
+      AreItems bytes (around + 1) (from + 1) close fs)
 
   pub AreItems : List ℕ → ℕ → ℕ → ℕ → FormTrees → Type 0
   AreItems bytes around from to no_form = IsGap bytes from to

@@ -16,23 +16,29 @@ use Rattle.tl_syntax.specs.declared.effect.Effects.{Effects, fold_out-Effects}
 
 pub tree-Add : (x0 : ℕ) (x1 : Terms) → tree_of_effect (variant.Add x0 x1) ≡ add x0 (tree_of_terms x1)
 unfolding tree_of_effect tree_of_effects
-tree-Add x0 x1 = ap (fold-Effect EffectTree EffectTrees effect_step effects_step) (sym (variant.rolls-Add x0 x1)) ∙ fold-roll-Effect EffectTree EffectTrees effect_step effects_step (layer.Add x0 x1)
+tree-Add x0 x1 = ap (fold-Effect EffectTree EffectTrees effect_step effects_step) (sym (variant.rolls-Add x0 x1)) ∙
+    fold-roll-Effect EffectTree EffectTrees effect_step effects_step (layer.Add x0 x1)
 
 pub tree-Del : (x0 : ℕ) (x1 : Terms) → tree_of_effect (variant.Del x0 x1) ≡ del x0 (tree_of_terms x1)
 unfolding tree_of_effect tree_of_effects
-tree-Del x0 x1 = ap (fold-Effect EffectTree EffectTrees effect_step effects_step) (sym (variant.rolls-Del x0 x1)) ∙ fold-roll-Effect EffectTree EffectTrees effect_step effects_step (layer.Del x0 x1)
+tree-Del x0 x1 = ap (fold-Effect EffectTree EffectTrees effect_step effects_step) (sym (variant.rolls-Del x0 x1)) ∙
+    fold-roll-Effect EffectTree EffectTrees effect_step effects_step (layer.Del x0 x1)
 
-pub tree-Assign : (x0 : ℕ) (x1 : Terms) (x2 : Term) → tree_of_effect (variant.Assign x0 x1 x2) ≡ assign x0 (tree_of_terms x1) (tree_of_term x2)
+pub tree-Assign : (x0 : ℕ) (x1 : Terms) (x2 : Term) → tree_of_effect (variant.Assign x0 x1 x2) ≡
+    assign x0 (tree_of_terms x1) (tree_of_term x2)
 unfolding tree_of_effect tree_of_effects
-tree-Assign x0 x1 x2 = ap (fold-Effect EffectTree EffectTrees effect_step effects_step) (sym (variant.rolls-Assign x0 x1 x2)) ∙ fold-roll-Effect EffectTree EffectTrees effect_step effects_step (layer.Assign x0 x1 x2)
+tree-Assign x0 x1 x2 = ap (fold-Effect EffectTree EffectTrees effect_step effects_step) (sym (variant.rolls-Assign x0 x1 x2)) ∙
+    fold-roll-Effect EffectTree EffectTrees effect_step effects_step (layer.Assign x0 x1 x2)
 
 pub tree-When : (x0 : Formula) (x1 : Effects) → tree_of_effect (variant.When x0 x1) ≡ when (tree_of_formula x0) (tree_of_effects x1)
 unfolding tree_of_effect tree_of_effects
-tree-When x0 x1 = ap (fold-Effect EffectTree EffectTrees effect_step effects_step) (sym (variant.rolls-When x0 x1)) ∙ fold-roll-Effect EffectTree EffectTrees effect_step effects_step (layer.When x0 x1)
+tree-When x0 x1 = ap (fold-Effect EffectTree EffectTrees effect_step effects_step) (sym (variant.rolls-When x0 x1)) ∙
+    fold-roll-Effect EffectTree EffectTrees effect_step effects_step (layer.When x0 x1)
 
 pub tree-Each : (x0 : List Var) (x1 : Bound) (x2 : Effects) → tree_of_effect (variant.Each x0 x1 x2) ≡ each x0 x1 (tree_of_effects x2)
 unfolding tree_of_effect tree_of_effects
-tree-Each x0 x1 x2 = ap (fold-Effect EffectTree EffectTrees effect_step effects_step) (sym (variant.rolls-Each x0 x1 x2)) ∙ fold-roll-Effect EffectTree EffectTrees effect_step effects_step (layer.Each x0 x1 x2)
+tree-Each x0 x1 x2 = ap (fold-Effect EffectTree EffectTrees effect_step effects_step) (sym (variant.rolls-Each x0 x1 x2)) ∙
+    fold-roll-Effect EffectTree EffectTrees effect_step effects_step (layer.Each x0 x1 x2)
 
 pub trees-Effects : (xs : Effects) → tree_of_effects xs ≡ effects_of_list (map tree_of_effect xs.items.items)
 unfolding tree_of_effect tree_of_effects

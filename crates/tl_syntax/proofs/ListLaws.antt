@@ -1,5 +1,6 @@
 -- What holds of each item of a list, and of one of them.
-use Rattle.std.proofs.Common.{◌≡◌, ◌⊎◌, ◌↔◌, List, [], ◌∷◌, ◌++◌, map, flat_map, filter, Bool, true, false, cond, not, ◌&&◌, ◌||◌, true≢false, refl, sym, ap, ◌∙◌, subst, inl, inr}
+use Rattle.std.proofs.Common.{◌≡◌, ◌⊎◌, ◌↔◌, List, [], ◌∷◌, ◌++◌, map, flat_map, filter, Bool, true, false, cond, not, ◌&&◌, ◌||◌}
+use Rattle.std.proofs.Common.{true≢false, refl, sym, ap, ◌∙◌, subst, inl, inr}
 use Rattle.std.specs.List.{list_any, list_all}
 use Rattle.tl_syntax.specs.Lists.{Each, AtLeastOne, Among}
 
@@ -49,22 +50,24 @@ module _ {A : Type 0} (P : A → Type 0) where
   -- what passes the test may be dropped where it holds
   pub Each-drop : (p : A → Bool) → ((x : A) → p x ≡ true → P x) → (xs : List A) → Each P (filter (λ x. not (p x)) xs) ↔ Each P xs
   Each-drop p sure [] = (λ h. h, λ h. h)
-  Each-drop p sure (x ∷ xs) = (elim (p x) as (λ b. p x ≡ b → Each P (cond (not b) (x ∷ filter (λ y. not (p y)) xs) (filter (λ y. not (p y)) xs)) ↔ (P x × Each P xs)) [
-    | true ↦ λ e. (λ h. (sure x e, (Each-drop p sure xs).0 h), λ h. (Each-drop p sure xs).1 h.1)
-    | false ↦ λ e. (λ h. (h.0, (Each-drop p sure xs).0 h.1), λ h. (h.0, (Each-drop p sure xs).1 h.1))
-  ]) refl
+  Each-drop p sure (x ∷ xs) = (elim (p x) as (λ b. p x ≡ b → Each P (cond (not b) (x ∷ filter (λ y. not (p y)) xs)
+      (filter (λ y. not (p y)) xs)) ↔ (P x × Each P xs)) [
+        | true ↦ λ e. (λ h. (sure x e, (Each-drop p sure xs).0 h), λ h. (Each-drop p sure xs).1 h.1)
+        | false ↦ λ e. (λ h. (h.0, (Each-drop p sure xs).0 h.1), λ h. (h.0, (Each-drop p sure xs).1 h.1))
+      ]) refl
 
   -- what passes the test may be dropped where it fails
   pub One-drop : (p : A → Bool) → ((x : A) → p x ≡ true → P x → ⊥) → (xs : List A)
       → AtLeastOne P (filter (λ x. not (p x)) xs) ↔ AtLeastOne P xs
   One-drop p never [] = (λ h. h, λ h. h)
-  One-drop p never (x ∷ xs) = (elim (p x) as (λ b. p x ≡ b → AtLeastOne P (cond (not b) (x ∷ filter (λ y. not (p y)) xs) (filter (λ y. not (p y)) xs)) ↔ (P x ⊎ AtLeastOne P xs)) [
-    | true ↦ λ e. (λ h. inr ((One-drop p never xs).0 h), elim [ inl h ↦ absurd (never x e h) | inr k ↦ (One-drop p never xs).1 k ])
-    | false ↦ λ e. (
-      elim [ inl h ↦ inl h | inr k ↦ inr ((One-drop p never xs).0 k) ],
-      elim [ inl h ↦ inl h | inr k ↦ inr ((One-drop p never xs).1 k) ],
-    )
-  ]) refl
+  One-drop p never (x ∷ xs) = (elim (p x) as (λ b. p x ≡ b → AtLeastOne P
+      (cond (not b) (x ∷ filter (λ y. not (p y)) xs) (filter (λ y. not (p y)) xs)) ↔ (P x ⊎ AtLeastOne P xs)) [
+        | true ↦ λ e. (λ h. inr ((One-drop p never xs).0 h), elim [ inl h ↦ absurd (never x e h) | inr k ↦ (One-drop p never xs).1 k ])
+        | false ↦ λ e. (
+          elim [ inl h ↦ inl h | inr k ↦ inr ((One-drop p never xs).0 k) ],
+          elim [ inl h ↦ inl h | inr k ↦ inr ((One-drop p never xs).1 k) ],
+        )
+      ]) refl
 
   -- where one passes a test that no_formula holding passes, not each holds
   pub Each-refuted : (p : A → Bool) → ((x : A) → p x ≡ true → P x → ⊥) → (xs : List A) → list_any p xs ≡ true → Each P xs → ⊥
@@ -93,10 +96,11 @@ module _ {A : Type 0} (P : A → Type 0) where
   pub One-split : (p : A → Bool) (xs : List A) → AtLeastOne P xs
       → ((x : A) × ((p x ≡ true) × P x)) ⊎ AtLeastOne P (filter (λ x. not (p x)) xs)
   One-split p [] h = absurd h
-  One-split p (x ∷ xs) h = (elim (p x) as (λ b. p x ≡ b → ((y : A) × ((p y ≡ true) × P y)) ⊎ AtLeastOne P (cond (not b) (x ∷ filter (λ y. not (p y)) xs) (filter (λ y. not (p y)) xs))) [
-    | true ↦ λ q. elim h [ inl k ↦ inl (x, (q, k)) | inr k ↦ One-split p xs k ]
-    | false ↦ λ q. elim h [ inl k ↦ inr (inl k) | inr k ↦ elim (One-split p xs k) [ inl m ↦ inl m | inr m ↦ inr (inr m) ] ]
-  ]) refl
+  One-split p (x ∷ xs) h = (elim (p x) as (λ b. p x ≡ b → ((y : A) × ((p y ≡ true) × P y)) ⊎
+      AtLeastOne P (cond (not b) (x ∷ filter (λ y. not (p y)) xs) (filter (λ y. not (p y)) xs))) [
+        | true ↦ λ q. elim h [ inl k ↦ inl (x, (q, k)) | inr k ↦ One-split p xs k ]
+        | false ↦ λ q. elim h [ inl k ↦ inr (inl k) | inr k ↦ elim (One-split p xs k) [ inl m ↦ inl m | inr m ↦ inr (inr m) ] ]
+      ]) refl
 
   pub One-flat : {B : Type 0} (f : B → List A) (bs : List B) → AtLeastOne P (flat_map f bs) ↔ AtLeastOne (λ b. AtLeastOne P (f b)) bs
   One-flat f [] = (λ h. h, λ h. h)
@@ -116,16 +120,17 @@ one_in P x (y ∷ xs) h k = elim h [ inl e ↦ inl (subst P (sym e) k) | inr m �
 
 pub Among-filter : {A : Type 0} (p : A → Bool) (x : A) (xs : List A) → Among x (filter p xs) ↔ (Among x xs × (p x ≡ true))
 Among-filter p x [] = (λ h. absurd h, λ h. h.0)
-Among-filter p x (y ∷ xs) = (elim (p y) as (λ b. p y ≡ b → AtLeastOne (λ z. z ≡ x) (cond b (y ∷ filter p xs) (filter p xs)) ↔ ((y ≡ x ⊎ Among x xs) × (p x ≡ true))) [
-  | true ↦ λ q. (
-    elim [ inl e ↦ (inl e, subst (λ z. p z ≡ true) e q) | inr k ↦ (let m = (Among-filter p x xs).0 k in (inr m.0, m.1)) ],
-    λ h. elim h.0 [ inl e ↦ inl e | inr k ↦ inr ((Among-filter p x xs).1 (k, h.1)) ],
-  )
-  | false ↦ λ q. (
-    λ k. let m = (Among-filter p x xs).0 k in (inr m.0, m.1),
-    λ h. elim h.0 [ inl e ↦ absurd (true≢false (sym h.1 ∙ (ap p (sym e) ∙ q))) | inr k ↦ (Among-filter p x xs).1 (k, h.1) ],
-  )
-]) refl
+Among-filter p x (y ∷ xs) = (elim (p y) as (λ b. p y ≡ b → AtLeastOne (λ z. z ≡ x) (cond b (y ∷ filter p xs) (filter p xs)) ↔
+    ((y ≡ x ⊎ Among x xs) × (p x ≡ true))) [
+      | true ↦ λ q. (
+        elim [ inl e ↦ (inl e, subst (λ z. p z ≡ true) e q) | inr k ↦ (let m = (Among-filter p x xs).0 k in (inr m.0, m.1)) ],
+        λ h. elim h.0 [ inl e ↦ inl e | inr k ↦ inr ((Among-filter p x xs).1 (k, h.1)) ],
+      )
+      | false ↦ λ q. (
+        λ k. let m = (Among-filter p x xs).0 k in (inr m.0, m.1),
+        λ h. elim h.0 [ inl e ↦ absurd (true≢false (sym h.1 ∙ (ap p (sym e) ∙ q))) | inr k ↦ (Among-filter p x xs).1 (k, h.1) ],
+      )
+    ]) refl
 
 pub and-iff : {a b : Bool} {A B : Type 0} → A ↔ (a ≡ true) → B ↔ (b ≡ true) → (A × B) ↔ ((a && b) ≡ true)
 and-iff {a} {b} p q = (λ h. subst (λ c. (c && b) ≡ true) (sym (p.0 h.0)) (q.0 h.1), λ h. let k = parts a b h in (p.1 k.0, q.1 k.1))
@@ -135,7 +140,11 @@ and-iff {a} {b} p q = (λ h. subst (λ c. (c && b) ≡ true) (sym (p.0 h.0)) (q.
     parts false b h = absurd (true≢false (sym h))
 
 pub or-iff : {a b : Bool} {A B : Type 0} → A ↔ (a ≡ true) → B ↔ (b ≡ true) → (A ⊎ B) ↔ ((a || b) ≡ true)
-or-iff {a} {b} p q = (elim [ inl h ↦ left a b (p.0 h) | inr h ↦ right a b (q.0 h) ], λ h. elim (parts a b h) [ inl k ↦ inl (p.1 k) | inr k ↦ inr (q.1 k) ])
+or-iff {a} {b} p q = (
+  elim [ inl h ↦ left a b (p.0 h) | inr h ↦ right a b (q.0 h) ],
+  λ h.
+      elim (parts a b h) [ inl k ↦ inl (p.1 k) | inr k ↦ inr (q.1 k) ],
+)
   where
     left : (a b : Bool) → a ≡ true → (a || b) ≡ true
     left true b h = refl
@@ -155,11 +164,13 @@ not-iff {a} {A} p = ((elim a as (λ c. (A → c ≡ true) × (c ≡ true → A) 
   | false ↦ λ q. (λ _. refl, λ _ k. true≢false (sym (q.0 k)))
 ]) p)
 
-pub all-iff : {A : Type 0} (P : A → Type 0) (p : A → Bool) → ((x : A) → P x ↔ (p x ≡ true)) → (xs : List A) → Each P xs ↔ (list_all p xs ≡ true)
+pub all-iff : {A : Type 0} (P : A → Type 0) (p : A → Bool) → ((x : A) → P x ↔ (p x ≡ true)) → (xs : List A) → Each P xs ↔
+    (list_all p xs ≡ true)
 all-iff P p h [] = (λ _. refl, λ _. tt)
 all-iff P p h (x ∷ xs) = and-iff (h x) (all-iff P p h xs)
 
-pub any-iff : {A : Type 0} (P : A → Type 0) (p : A → Bool) → ((x : A) → P x ↔ (p x ≡ true)) → (xs : List A) → AtLeastOne P xs ↔ (list_any p xs ≡ true)
+pub any-iff : {A : Type 0} (P : A → Type 0) (p : A → Bool) → ((x : A) → P x ↔ (p x ≡ true)) → (xs : List A) → AtLeastOne P xs ↔
+    (list_any p xs ≡ true)
 any-iff P p h [] = (λ b. absurd b, λ e. true≢false (sym e))
 any-iff P p h (x ∷ xs) = or-iff (h x) (any-iff P p h xs)
 

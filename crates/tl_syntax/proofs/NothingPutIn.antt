@@ -8,8 +8,11 @@ use Rattle.tl_syntax.specs.declared.variable.Arg.{Arg}
 use Rattle.tl_syntax.specs.declared.variable.Arg.TheVariants as arg
 use Rattle.tl_syntax.specs.declared.variable.Var.{Var}
 use Rattle.tl_syntax.specs.Assignment.{Assignment, no_values}
-use Rattle.tl_syntax.specs.Substitution.{without, substituted_arg, substituted_args, substituted_bound, substituted_term, substituted_terms, substituted, substituted_all}
-use Rattle.tl_syntax.specs.Trees.{TermTree, TermTrees, variable, value, place, arith, no_term, more_terms, FormulaTree, FormulaTrees, verum, falsum, atom, defined, compare, goal_fact, goal_place, goal_not, negation, conjunction, disjunction, for_all, for_some, next, always, eventually, until, within, during, no_formula, more_formulas}
+use Rattle.tl_syntax.specs.Substitution.{without, substituted_arg, substituted_args, substituted_bound, substituted_term, substituted_terms}
+use Rattle.tl_syntax.specs.Substitution.{substituted, substituted_all}
+use Rattle.tl_syntax.specs.Trees.{TermTree, TermTrees, variable, value, place, arith, no_term, more_terms, FormulaTree, FormulaTrees, verum}
+use Rattle.tl_syntax.specs.Trees.{falsum, atom, defined, compare, goal_fact, goal_place, goal_not, negation, conjunction, disjunction}
+use Rattle.tl_syntax.specs.Trees.{for_all, for_some, next, always, eventually, until, within, during, no_formula, more_formulas}
 
 none-either : (b : Bool) (o : Option Value) → o ≡ None → cond b None o ≡ None
 none-either true o h = refl
@@ -17,7 +20,8 @@ none-either false o h = h
 
 without-nothing : (ss : List Var) → without ss no_values ≡ no_values
 without-nothing [] = refl
-without-nothing (s ∷ ss) = fun_ext (λ q. none-either (q == s.slot) (without ss no_values q) (ap (λ (e : Assignment). e q) (without-nothing ss)))
+without-nothing (s ∷ ss) = fun_ext (λ q. none-either (q == s.slot) (without ss no_values q)
+    (ap (λ (e : Assignment). e q) (without-nothing ss)))
 
 arg-nothing : (x : Arg) → substituted_arg no_values x ≡ x
 arg-nothing (arg.Var s) = refl
@@ -48,9 +52,12 @@ mutual
   terms-nothing (more_terms t ts) = ap₂ more_terms (term-nothing t) (terms-nothing ts)
 
 -- below a quantifier nothing is put in either
-scope-nothing : (quantifier : List Var → Bound → FormulaTree → FormulaTree) (ss : List Var) (b : Bound) (f : FormulaTree) → substituted no_values f ≡ f → quantifier ss (substituted_bound (without ss no_values) b) (substituted (without ss no_values) f) ≡ quantifier ss b f
+scope-nothing : (quantifier : List Var → Bound → FormulaTree → FormulaTree) (ss : List Var) (b : Bound) (f : FormulaTree) →
+    substituted no_values f ≡ f → quantifier ss (substituted_bound (without ss no_values) b) (substituted (without ss no_values) f) ≡
+    quantifier ss b f
 scope-nothing quantifier ss b f h =
-    ap (λ (e : Assignment). quantifier ss (substituted_bound e b) (substituted e f)) (without-nothing ss) ∙ ap₂ (quantifier ss) (bound-nothing b) h
+    ap (λ (e : Assignment). quantifier ss (substituted_bound e b) (substituted e f)) (without-nothing ss) ∙
+    ap₂ (quantifier ss) (bound-nothing b) h
 
 mutual
   unfolding substituted substituted_all

@@ -37,8 +37,16 @@ var-tells u v = (
 )
 
 pub arg-tells : Tells (arg_impl.ghosts).eq
-arg-tells (arg.Var u) (arg.Var v) = (λ h. ap (λ (k : Var). arg.Var k) ((var-tells u v).0 h), λ e. (var-tells u v).1 (let k : u ≡ v = cc in k))
-arg-tells (arg.Val u) (arg.Val v) = (λ h. ap (λ (k : Value). arg.Val k) ((value-tells u v).0 h), λ e. (value-tells u v).1 (let k : u ≡ v = cc in k))
+arg-tells (arg.Var u) (arg.Var v) = (
+  λ h. ap (λ (k : Var). arg.Var k) ((var-tells u v).0 h),
+  λ e.
+      (var-tells u v).1 (let k : u ≡ v = cc in k),
+)
+arg-tells (arg.Val u) (arg.Val v) = (
+  λ h. ap (λ (k : Value). arg.Val k) ((value-tells u v).0 h),
+  λ e.
+      (value-tells u v).1 (let k : u ≡ v = cc in k),
+)
 arg-tells u v = (λ h. absurd (true≢false (sym h)), λ e. absurd (let k : ⊥ = cc in k))
 
 pub op-tells : Tells (op_impl.ghosts).eq
@@ -70,8 +78,10 @@ bound-tells (bound.Fact p xs) (bound.Fact q ys) = (
 )
 bound-tells (bound.Place p xs x) (bound.Place q ys y) = (
   λ h. let k = both (nat_eq p q) (pointwise A xs ys && A x y) h in let l = both (pointwise A xs ys) (A x y) k.1 in
-      let a = eqb-true p q k.0 in let b = (list-tells A arg-tells xs ys).0 l.0 in let c = (arg-tells x y).0 l.1 in λ i. bound.Place (a i) (b i) (c i),
-  λ e. with_both (eq-eqb p q (let k : p ≡ q = cc in k)) (with_both ((list-tells A arg-tells xs ys).1 (let k : xs ≡ ys = cc in k)) ((arg-tells x y).1 (let k : x ≡ y = cc in k))),
+      let a = eqb-true p q k.0 in let b = (list-tells A arg-tells xs ys).0 l.0 in let c = (arg-tells x y).0 l.1 in λ i.
+      bound.Place (a i) (b i) (c i),
+  λ e. with_both (eq-eqb p q (let k : p ≡ q = cc in k)) (with_both ((list-tells A arg-tells xs ys).1 (let k : xs ≡ ys = cc in k))
+      ((arg-tells x y).1 (let k : x ≡ y = cc in k))),
 )
 bound-tells (bound.GoalFact p xs) (bound.GoalFact q ys) = (
   λ h. let k = both (nat_eq p q) (pointwise A xs ys) h in ap₂ bound.GoalFact (eqb-true p q k.0) ((list-tells A arg-tells xs ys).0 k.1),
@@ -79,8 +89,10 @@ bound-tells (bound.GoalFact p xs) (bound.GoalFact q ys) = (
 )
 bound-tells (bound.GoalPlace p xs x) (bound.GoalPlace q ys y) = (
   λ h. let k = both (nat_eq p q) (pointwise A xs ys && A x y) h in let l = both (pointwise A xs ys) (A x y) k.1 in
-      let a = eqb-true p q k.0 in let b = (list-tells A arg-tells xs ys).0 l.0 in let c = (arg-tells x y).0 l.1 in λ i. bound.GoalPlace (a i) (b i) (c i),
-  λ e. with_both (eq-eqb p q (let k : p ≡ q = cc in k)) (with_both ((list-tells A arg-tells xs ys).1 (let k : xs ≡ ys = cc in k)) ((arg-tells x y).1 (let k : x ≡ y = cc in k))),
+      let a = eqb-true p q k.0 in let b = (list-tells A arg-tells xs ys).0 l.0 in let c = (arg-tells x y).0 l.1 in λ i.
+      bound.GoalPlace (a i) (b i) (c i),
+  λ e. with_both (eq-eqb p q (let k : p ≡ q = cc in k)) (with_both ((list-tells A arg-tells xs ys).1 (let k : xs ≡ ys = cc in k))
+      ((arg-tells x y).1 (let k : x ≡ y = cc in k))),
 )
 bound-tells (bound.GoalNot p xs) (bound.GoalNot q ys) = (
   λ h. let k = both (nat_eq p q) (pointwise A xs ys) h in ap₂ bound.GoalNot (eqb-true p q k.0) ((list-tells A arg-tells xs ys).0 k.1),
@@ -94,11 +106,14 @@ V = (value_impl.ghosts).eq
 
 pub place_value-tells : Tells (place_value_impl.ghosts).eq
 place_value-tells x y = (
-  λ h. let k = both (nat_eq x.fun y.fun) (pointwise V x.args y.args && V x.value y.value) h in let l = both (pointwise V x.args y.args) (V x.value y.value) k.1 in
-      let a = eqb-true x.fun y.fun k.0 in let b = (list-tells V value-tells x.args y.args).0 l.0 in let c = (value-tells x.value y.value).0 l.1 in
+  λ h. let k = both (nat_eq x.fun y.fun) (pointwise V x.args y.args && V x.value y.value) h in let l =
+      both (pointwise V x.args y.args) (V x.value y.value) k.1 in
+      let a = eqb-true x.fun y.fun k.0 in let b = (list-tells V value-tells x.args y.args).0 l.0 in let c =
+      (value-tells x.value y.value).0 l.1 in
       λ i. record { fun = a i; args = b i; value = c i },
   λ e. with_both (eq-eqb x.fun y.fun (ap (λ (p : PlaceValue). p.fun) e))
-      (with_both ((list-tells V value-tells x.args y.args).1 (ap (λ (p : PlaceValue). p.args) e)) ((value-tells x.value y.value).1 (ap (λ (p : PlaceValue). p.value) e))),
+      (with_both ((list-tells V value-tells x.args y.args).1 (ap (λ (p : PlaceValue). p.args) e))
+      ((value-tells x.value y.value).1 (ap (λ (p : PlaceValue). p.value) e))),
 )
 
 pub action-tells : Tells (action_impl.ghosts).eq
@@ -106,5 +121,6 @@ action-tells x y = (
   λ h. let k = both (nat_eq x.op y.op) (pointwise V x.args y.args) h in
       let a = eqb-true x.op y.op k.0 in let b = (list-tells V value-tells x.args y.args).0 k.1 in
       λ i. record { op = a i; args = b i },
-  λ e. with_both (eq-eqb x.op y.op (ap (λ (p : Action). p.op) e)) ((list-tells V value-tells x.args y.args).1 (ap (λ (p : Action). p.args) e)),
+  λ e. with_both (eq-eqb x.op y.op (ap (λ (p : Action). p.op) e)) ((list-tells V value-tells x.args y.args).1
+      (ap (λ (p : Action). p.args) e)),
 )

@@ -1,5 +1,6 @@
 -- The derived tests of values and facts hold exactly where the two are the same.
-use Rattle.std.proofs.Common.{◌≡◌, ℕ, ℤ, Equal, Bool, true, false, true≢false, [], ◌∷◌, ap, ap₂, sym, refl, subst, nat_eq, ◌&&◌, eqb-true, eq-eqb, Decides}
+use Rattle.std.proofs.Common.{◌≡◌, ℕ, ℤ, Equal, Bool, true, false, true≢false, [], ◌∷◌, ap, ap₂, sym, refl, subst, nat_eq, ◌&&◌, eqb-true}
+use Rattle.std.proofs.Common.{eq-eqb, Decides}
 use Rattle.std.proofs.lemmas.Bool.Decides.{same_from_decides}
 use Rattle.std.specs.Cmp.{signed_Decides, Equal-is, tied_itself}
 use Rattle.std.specs.Cmp.Lexicographic.{pointwise}
@@ -40,7 +41,8 @@ fact-tells f g = (
   λ h. let k = both (nat_eq f.pred g.pred) (pointwise (value_impl.ghosts).eq f.args g.args) h in
       let p = eqb-true f.pred g.pred k.0 in let q = (list-tells (value_impl.ghosts).eq value-tells f.args g.args).0 k.1 in
       λ i. record { pred = p i; args = q i },
-  λ e. with_both (eq-eqb f.pred g.pred (ap (λ (x : Fact). x.pred) e)) ((list-tells (value_impl.ghosts).eq value-tells f.args g.args).1 (ap (λ (x : Fact). x.args) e)),
+  λ e. with_both (eq-eqb f.pred g.pred (ap (λ (x : Fact). x.pred) e)) ((list-tells (value_impl.ghosts).eq value-tells f.args g.args).1
+      (ap (λ (x : Fact). x.args) e)),
 )
 
 key-tells : (j k : Key) → Decides (eq_by_cmp key_cmp j k) (j ≡ k)

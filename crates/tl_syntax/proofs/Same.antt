@@ -174,7 +174,8 @@ of_place_discrete = ×_discrete of_fact_discrete arg_discrete
 
 -- bounds
 bound_discrete : Discrete Bound
-bound_discrete = told_by bound_to bound_from bound_back (sums.discrete (sums.discrete (sums.discrete of_fact_discrete of_place_discrete) (sums.discrete of_fact_discrete of_place_discrete)) of_fact_discrete)
+bound_discrete = told_by bound_to bound_from bound_back (sums.discrete
+    (sums.discrete (sums.discrete of_fact_discrete of_place_discrete) (sums.discrete of_fact_discrete of_place_discrete)) of_fact_discrete)
 
 -- terms
 pub term_discrete : Discrete TermTree
@@ -186,4 +187,5 @@ terms_discrete = TermTrees-discrete var_discrete value_discrete ℕ_discrete op_
 
 -- formulas, with the offsets of their operations
 pub formula_discrete : Discrete FormulaTree
-formula_discrete = FormulaTree-discrete ℕ_discrete terms_discrete cmp_discrete term_discrete args_discrete arg_discrete (List-discrete var_discrete) bound_discrete
+formula_discrete = FormulaTree-discrete ℕ_discrete terms_discrete cmp_discrete term_discrete args_discrete arg_discrete
+    (List-discrete var_discrete) bound_discrete

@@ -1,5 +1,6 @@
 -- Facts on texts that are numbered anew.
-use Rattle.std.proofs.Common.{◌≡◌, ◌<◌, ◌+◌, ◌⊎◌, inl, inr, ℕ, List, [], ◌∷◌, ◌++◌, map, take, length, set, Option, Some, None, refl, sym, ap, ◌∙◌, subst, arith, length-set}
+use Rattle.std.proofs.Common.{◌≡◌, ◌<◌, ◌+◌, ◌⊎◌, inl, inr, ℕ, List, [], ◌∷◌, ◌++◌, map, take, length, set, Option, Some, None, refl, sym}
+use Rattle.std.proofs.Common.{ap, ◌∙◌, subst, arith, length-set}
 use Rattle.std.specs.Prelude.{IsPermutation}
 use Rattle.std.specs.List.{slice_get}
 use Rattle.std.proofs.lemmas.Grind.{common_steps}
@@ -20,7 +21,8 @@ pub AreTheirPlaces-push : (numbers : List ℕ) (n : ℕ) → AreTheirPlaces numb
 AreTheirPlaces-push numbers n counted last = λ k m at. grind (arith, common_steps, gets, counted k m)
 
 -- one more number is put at the end, at its own place
-pub counted-more : {Y : Type 0} (g : Y → ℕ) (ys : List Y) (y : Y) → AreTheirPlaces (map g ys) → g y ≡ length ys → AreTheirPlaces (map g (ys ++ y ∷ []))
+pub counted-more : {Y : Type 0} (g : Y → ℕ) (ys : List Y) (y : Y) → AreTheirPlaces (map g ys) → g y ≡ length ys →
+    AreTheirPlaces (map g (ys ++ y ∷ []))
 counted-more g ys y counted last = rw map-append (AreTheirPlaces-push (map g ys) (g y) counted (last ∙ sym (length-map ys g)))
 
 -- a number that was written stands there
@@ -34,18 +36,22 @@ slice_get-set_other : (places : List ℕ) (n k m j : ℕ) → (m ≡ n → ⊥) 
 slice_get-set_other places n k m j other at =
     let within : m < length places = slice_get_within places m j at in
     let inside : m < length (set places n k) = rw length-set within in
-    slice_get-get_or (set places n k) m 0 inside ∙ ap (λ (v : ℕ). Some v) (get_or-set_other places n m k 0 other ∙ get_or_from_slice_get places m j 0 at)
+    slice_get-get_or (set places n k) m 0 inside ∙ ap (λ (v : ℕ). Some v)
+    (get_or-set_other places n m k 0 other ∙ get_or_from_slice_get places m j 0 at)
 
 -- one more number is given its place
-pub GivesPlaces-more : (places numbers : List ℕ) (k n : ℕ) → Differ numbers → slice_get numbers k ≡ Some n → n < length places → GivesPlaces places numbers k → GivesPlaces (set places n k) numbers (k + 1)
+pub GivesPlaces-more : (places numbers : List ℕ) (k n : ℕ) → Differ numbers → slice_get numbers k ≡ Some n → n < length places →
+    GivesPlaces places numbers k → GivesPlaces (set places n k) numbers (k + 1)
 GivesPlaces-more places numbers k n differ at within given = λ j m below at_j. elim (earlier_or_last j k below) [
   | inl before ↦
       let gave : slice_get places m ≡ Some j = given j m before at_j in
-      let other : m ≡ n → ⊥ = λ same. absurd (not_before j k before (differ j k n (subst (λ (v : ℕ). slice_get numbers j ≡ Some v) same at_j) at)) in
+      let other : m ≡ n → ⊥ = λ same. absurd (not_before j k before (differ j k n
+      (subst (λ (v : ℕ). slice_get numbers j ≡ Some v) same at_j) at)) in
       slice_get-set_other places n k m j other gave
   | inr last ↦
       let same : n ≡ m = same_Some n m (sym at ∙ ap (slice_get numbers) (sym last) ∙ at_j) in
-      subst (λ (v : ℕ). slice_get (set places n k) v ≡ Some j) same (slice_get-set_same places n k within ∙ ap (λ (v : ℕ). Some v) (sym last))
+      subst (λ (v : ℕ). slice_get (set places n k) v ≡ Some j) same (slice_get-set_same places n k within ∙
+      ap (λ (v : ℕ). Some v) (sym last))
 ]
   where
     earlier_or_last : (j k : ℕ) → j < k + 1 → (j < k) ⊎ (j ≡ k)
@@ -55,7 +61,8 @@ GivesPlaces-more places numbers k n differ at within given = λ j m below at_j. 
     not_before j k before same = omega arith
 
 -- a text that stands later has no number yet
-pub number_of-later : (names : List (List ℕ)) (k : ℕ) (text : List ℕ) → AreDistinct names → slice_get names k ≡ Some text → number_of (take k names) text ≡ None
+pub number_of-later : (names : List (List ℕ)) (k : ℕ) (text : List ℕ) → AreDistinct names → slice_get names k ≡ Some text →
+    number_of (take k names) text ≡ None
 number_of-later names k text distinct at = by_answer (number_of (take k names) text) refl
   where
     earlier : (m : ℕ) → slice_get (take k names) m ≡ Some text → (m < k) × (slice_get names m ≡ Some text)
@@ -71,7 +78,8 @@ number_of-later names k text distinct at = by_answer (number_of (take k names) t
 module _ {X : Type 0} (text : X → List ℕ) (number : X → ℕ) (old new : List X) (moved : IsPermutation old new) where
   -- the numbers of entries that were counted differ in any order
   pub Differ-moved : AreTheirPlaces (map number old) → Differ (map number new)
-  Differ-moved counted = Differ-permutation (map number old) (map number new) (IsPermutation-map number old new moved) (Differ-counted (map number old) counted)
+  Differ-moved counted = Differ-permutation (map number old) (map number new) (IsPermutation-map number old new moved)
+      (Differ-counted (map number old) counted)
 
   -- and none is past the end
   pub AreBelow-moved : AreTheirPlaces (map number old) → AreBelow (length new) (map number new)
@@ -88,11 +96,13 @@ module _ {X : Type 0} (text : X → List ℕ) (number : X → ℕ) (old new : Li
   AreDistinct-moved distinct = Differ-permutation (map text old) (map text new) (IsPermutation-map text old new moved) distinct
 
   -- a list that gives each number its place renumbers the texts
-  pub Renumbers-moved : (places : List ℕ) → AreTheirPlaces (map number old) → GivesPlaces places (map number new) (length new) → Renumbers places (map text old) (map text new)
+  pub Renumbers-moved : (places : List ℕ) → AreTheirPlaces (map number old) → GivesPlaces places (map number new) (length new) →
+      Renumbers places (map text old) (map text new)
   Renumbers-moved places counted given = λ i t at.
       let entry = source_of text old i t at in
       let counts : number entry.0 ≡ i = counted i (number entry.0) (image_at number old i entry.0 entry.1) in
       let place = place_in old new i entry.0 moved entry.1 in
-      let gives : slice_get places (number entry.0) ≡ Some place.0 = given place.0 (number entry.0) place.1 (image_at number new place.0 entry.0 place.2) in
+      let gives : slice_get places (number entry.0) ≡ Some place.0 = given place.0 (number entry.0) place.1
+      (image_at number new place.0 entry.0 place.2) in
       let stands : slice_get (map text new) place.0 ≡ Some (text entry.0) = image_at text new place.0 entry.0 place.2 in
       (place.0, subst (λ (v : ℕ). slice_get places v ≡ Some place.0) counts gives, stands ∙ ap (λ (z : List ℕ). Some z) entry.2)

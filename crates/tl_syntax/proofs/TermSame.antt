@@ -1,9 +1,11 @@
 -- Two terms are equal by the derived test exactly where they are one tree.
-use Rattle.std.proofs.Common.{◌≡◌, ◌↔◌, Bool, true, false, true≢false, List, [], ◌∷◌, map, ap, ap₂, sym, ◌∙◌, refl, subst, nat_eq, ◌&&◌, eqb-true, eq-eqb}
+use Rattle.std.proofs.Common.{◌≡◌, ◌↔◌, Bool, true, false, true≢false, List, [], ◌∷◌, map, ap, ap₂, sym, ◌∙◌, refl, subst, nat_eq, ◌&&◌}
+use Rattle.std.proofs.Common.{eqb-true, eq-eqb}
 use Rattle.std.specs.Cmp.Lexicographic.{pointwise}
 use Rattle.tl_syntax.specs.Trees.{TermTree, TermTrees, variable, value, place, arith, more_terms}
 use Rattle.tl_syntax.specs.TreeOfTerm.{tree_of_term, tree_of_terms, term_step, terms_step, terms_of_list}
-use Rattle.tl_syntax.specs.declared.term.Term.{Term, Term-F, out-Term, roll-Term, out-roll-Term, roll-out-Term, fold-roll-Term, map-Term, ind-Term}
+use Rattle.tl_syntax.specs.declared.term.Term.{Term, Term-F, out-Term, roll-Term, out-roll-Term, roll-out-Term, fold-roll-Term, map-Term}
+use Rattle.tl_syntax.specs.declared.term.Term.{ind-Term}
 use Rattle.tl_syntax.specs.declared.term.Terms.{Terms, Terms-F, roll-Terms, map-Terms}
 use Rattle.tl_syntax.specs.declared.term.Term.TheOpen as layer
 use Rattle.tl_syntax.specs.contracts.term.TermPartialEq.TheImpl as term_impl
@@ -32,15 +34,18 @@ layer_eq : Term-F Term Terms → Term-F Term Terms → Bool
 layer_eq (layer.Var u) (layer.Var v) = (var_impl.ghosts).eq u v
 layer_eq (layer.Val u) (layer.Val v) = (value_impl.ghosts).eq u v
 layer_eq (layer.Place f ts) (layer.Place g us) = nat_eq f g && terms_eq ts us
-layer_eq (layer.Arith op a b at) (layer.Arith oq c d au) = (op_impl.ghosts).eq op oq && (term_eq a.value c.value && (term_eq b.value d.value && nat_eq at au))
+layer_eq (layer.Arith op a b at) (layer.Arith oq c d au) = (op_impl.ghosts).eq op oq &&
+    (term_eq a.value c.value && (term_eq b.value d.value && nat_eq at au))
 layer_eq _ _ = false
 
 eq-roll : (x y : Term-F Term Terms) → term_eq (roll-Term x) (roll-Term y) ≡ layer_eq x y
 unfolding term_eq terms_eq layer_eq
 eq-roll (layer.Var u) (layer.Var v) = term_laws.is (roll-Term (layer.Var u)) (roll-Term (layer.Var v)) ∙ simp out-roll-Term
 eq-roll (layer.Val u) (layer.Val v) = term_laws.is (roll-Term (layer.Val u)) (roll-Term (layer.Val v)) ∙ simp out-roll-Term
-eq-roll (layer.Place f ts) (layer.Place g us) = term_laws.is (roll-Term (layer.Place f ts)) (roll-Term (layer.Place g us)) ∙ simp out-roll-Term
-eq-roll (layer.Arith op a b at) (layer.Arith oq c d au) = term_laws.is (roll-Term (layer.Arith op a b at)) (roll-Term (layer.Arith oq c d au)) ∙ simp out-roll-Term
+eq-roll (layer.Place f ts) (layer.Place g us) = term_laws.is (roll-Term (layer.Place f ts)) (roll-Term (layer.Place g us)) ∙
+    simp out-roll-Term
+eq-roll (layer.Arith op a b at) (layer.Arith oq c d au) = term_laws.is (roll-Term (layer.Arith op a b at))
+    (roll-Term (layer.Arith oq c d au)) ∙ simp out-roll-Term
 eq-roll x y = term_laws.is (roll-Term x) (roll-Term y) ∙ simp out-roll-Term
 
 layer_tree : Term-F Term Terms → TermTree
@@ -81,7 +86,8 @@ layer-same (layer.Arith op a b at) (layer.Arith oq c d au) = (
       let k = both ((op_impl.ghosts).eq op oq) (term_eq a.value.0 c.value && (term_eq b.value.0 d.value && nat_eq at au)) h in
       let l = both (term_eq a.value.0 c.value) (term_eq b.value.0 d.value && nat_eq at au) k.1 in
       let m = both (term_eq b.value.0 d.value) (nat_eq at au) l.1 in
-      let p = (op-tells op oq).0 k.0 in let q = (a.value.1 c.value).0 l.0 in let r = (b.value.1 d.value).0 m.0 in let s = eqb-true at au m.1 in
+      let p = (op-tells op oq).0 k.0 in let q = (a.value.1 c.value).0 l.0 in let r = (b.value.1 d.value).0 m.0 in let s =
+      eqb-true at au m.1 in
       λ i. arith (p i) (q i) (r i) (s i),
   λ h.
       let p : op ≡ oq = cc in
@@ -92,11 +98,13 @@ layer-same (layer.Arith op a b at) (layer.Arith oq c d au) = (
 )
 layer-same x y = (λ h. absurd (true≢false (sym h)), λ e. absurd (let k : ⊥ = cc in k))
 
-items-same : (xs : List ((t : Term) × IsSame t)) (ys : List Term) → (pointwise term_eq (map (λ e. e.0) xs) ys ≡ true) ↔ (terms_of_list (map tree_of_term (map (λ e. e.0) xs)) ≡ terms_of_list (map tree_of_term ys))
+items-same : (xs : List ((t : Term) × IsSame t)) (ys : List Term) → (pointwise term_eq (map (λ e. e.0) xs) ys ≡ true) ↔
+    (terms_of_list (map tree_of_term (map (λ e. e.0) xs)) ≡ terms_of_list (map tree_of_term ys))
 unfolding IsSame
 items-same [] [] = (λ _. refl, λ _. refl)
 items-same (x ∷ xs) (y ∷ ys) = (
-  λ h. let k = both (term_eq x.0 y) (pointwise term_eq (map (λ e. e.0) xs) ys) h in ap₂ more_terms ((x.1 y).0 k.0) ((items-same xs ys).0 k.1),
+  λ h. let k = both (term_eq x.0 y) (pointwise term_eq (map (λ e. e.0) xs) ys) h in
+      ap₂ more_terms ((x.1 y).0 k.0) ((items-same xs ys).0 k.1),
   λ h.
       let p : tree_of_term x.0 ≡ tree_of_term y = cc in
       let q : terms_of_list (map tree_of_term (map (λ e. e.0) xs)) ≡ terms_of_list (map tree_of_term ys) = cc in
@@ -114,12 +122,15 @@ pub term-same : (a b : Term) → (term_eq a b ≡ true) ↔ (tree_of_term a ≡ 
 unfolding IsSame AreSame
 term-same = ind-Term IsSame AreSame
     (λ x y is b. subst (λ z. (c : Term) → (term_eq (roll-Term z) c ≡ true) ↔ (tree_of_term (roll-Term z) ≡ tree_of_term c)) is
-    (λ c. subst (λ w. (term_eq (roll-Term (terms_below y)) w ≡ true) ↔ (tree_of_term (roll-Term (terms_below y)) ≡ tree_of_term w)) (roll-out-Term c)
+    (λ c. subst (λ w. (term_eq (roll-Term (terms_below y)) w ≡ true) ↔ (tree_of_term (roll-Term (terms_below y)) ≡ tree_of_term w))
+    (roll-out-Term c)
     (iff-along (eq-roll (terms_below y) (out-Term c)) (tree-roll (terms_below y)) (tree-roll (out-Term c)) (layer-same y (out-Term c)))) b)
     (λ x y is us. subst (λ z. (terms_eq (roll-Terms z) us ≡ true) ↔ (tree_of_terms (roll-Terms z) ≡ tree_of_terms us)) is
-    (iff-along (eq-Terms (roll-Terms (rows_below y)) us) (trees-Terms (roll-Terms (rows_below y))) (trees-Terms us) (items-same y.items.items us.items.items)))
+    (iff-along (eq-Terms (roll-Terms (rows_below y)) us) (trees-Terms (roll-Terms (rows_below y))) (trees-Terms us)
+    (items-same y.items.items us.items.items)))
 
-list-same : (xs ys : List Term) → (pointwise term_eq xs ys ≡ true) ↔ (terms_of_list (map tree_of_term xs) ≡ terms_of_list (map tree_of_term ys))
+list-same : (xs ys : List Term) → (pointwise term_eq xs ys ≡ true) ↔ (terms_of_list (map tree_of_term xs) ≡
+    terms_of_list (map tree_of_term ys))
 list-same [] [] = (λ _. refl, λ _. refl)
 list-same (x ∷ xs) (y ∷ ys) = (
   λ h. let k = both (term_eq x y) (pointwise term_eq xs ys) h in ap₂ more_terms ((term-same x y).0 k.0) ((list-same xs ys).0 k.1),

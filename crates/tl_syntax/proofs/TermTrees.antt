@@ -12,19 +12,24 @@ use Rattle.tl_syntax.specs.declared.term.Terms.{Terms, fold_out-Terms}
 
 pub tree-Var : (v : Var) → tree_of_term (variant.Var v) ≡ variable v
 unfolding tree_of_term tree_of_terms
-tree-Var v = ap (fold-Term TermTree TermTrees term_step terms_step) (sym (variant.rolls-Var v)) ∙ fold-roll-Term TermTree TermTrees term_step terms_step (layer.Var v)
+tree-Var v = ap (fold-Term TermTree TermTrees term_step terms_step) (sym (variant.rolls-Var v)) ∙
+    fold-roll-Term TermTree TermTrees term_step terms_step (layer.Var v)
 
 pub tree-Val : (v : Value) → tree_of_term (variant.Val v) ≡ value v
 unfolding tree_of_term tree_of_terms
-tree-Val v = ap (fold-Term TermTree TermTrees term_step terms_step) (sym (variant.rolls-Val v)) ∙ fold-roll-Term TermTree TermTrees term_step terms_step (layer.Val v)
+tree-Val v = ap (fold-Term TermTree TermTrees term_step terms_step) (sym (variant.rolls-Val v)) ∙
+    fold-roll-Term TermTree TermTrees term_step terms_step (layer.Val v)
 
 pub tree-Place : (f : ℕ) (ts : Terms) → tree_of_term (variant.Place f ts) ≡ place f (tree_of_terms ts)
 unfolding tree_of_term tree_of_terms
-tree-Place f ts = ap (fold-Term TermTree TermTrees term_step terms_step) (sym (variant.rolls-Place f ts)) ∙ fold-roll-Term TermTree TermTrees term_step terms_step (layer.Place f ts)
+tree-Place f ts = ap (fold-Term TermTree TermTrees term_step terms_step) (sym (variant.rolls-Place f ts)) ∙
+    fold-roll-Term TermTree TermTrees term_step terms_step (layer.Place f ts)
 
-pub tree-Arith : (op : Op) (a b : Box Term Global) (at : ℕ) → tree_of_term (variant.Arith op a b at) ≡ arith op (tree_of_term a.value) (tree_of_term b.value) at
+pub tree-Arith : (op : Op) (a b : Box Term Global) (at : ℕ) → tree_of_term (variant.Arith op a b at) ≡
+    arith op (tree_of_term a.value) (tree_of_term b.value) at
 unfolding tree_of_term tree_of_terms
-tree-Arith op a b at = ap (fold-Term TermTree TermTrees term_step terms_step) (sym (variant.rolls-Arith op a b at)) ∙ fold-roll-Term TermTree TermTrees term_step terms_step (layer.Arith op a b at)
+tree-Arith op a b at = ap (fold-Term TermTree TermTrees term_step terms_step) (sym (variant.rolls-Arith op a b at)) ∙
+    fold-roll-Term TermTree TermTrees term_step terms_step (layer.Arith op a b at)
 
 pub trees-Terms : (ts : Terms) → tree_of_terms ts ≡ terms_of_list (map tree_of_term ts.items.items)
 unfolding tree_of_term tree_of_terms

@@ -52,6 +52,7 @@ value_ties (Sym a) (Sym b) e = ap Sym (set.nat_cmp-IsAntisymmetric a b e)
 pub key_ties : set.IsAntisymmetric key_cmp
 key_ties x y e = (elim (nat_cmp x.0 y.0) as (λ r. nat_cmp x.0 y.0 ≡ r → ordering_then r (slice_cmp value_cmp x.1 y.1) ≡ Equal → x ≡ y) [
   | Less ↦ λ p q. cc
-  | Equal ↦ λ p q. let a = set.nat_cmp-IsAntisymmetric x.0 y.0 p in let b = set.slice_cmp-IsAntisymmetric value_ties x.1 y.1 q in λ i. (a i, b i)
+  | Equal ↦ λ p q. let a = set.nat_cmp-IsAntisymmetric x.0 y.0 p in let b = set.slice_cmp-IsAntisymmetric value_ties x.1 y.1 q in λ i.
+      (a i, b i)
   | Greater ↦ λ p q. cc
 ]) refl e

@@ -1,6 +1,8 @@
 -- Which definitions a formula names.
 use Rattle.std.specs.Prelude.{ℕ, ◌<◌}
-use Rattle.tl_syntax.specs.Trees.{FormulaTree, FormulaTrees, verum, falsum, atom, defined, compare, goal_fact, goal_place, goal_not, negation, conjunction, disjunction, for_all, for_some, next, always, eventually, until, within, during, no_formula, more_formulas}
+use Rattle.tl_syntax.specs.Trees.{FormulaTree, FormulaTrees, verum, falsum, atom, defined, compare, goal_fact, goal_place, goal_not}
+use Rattle.tl_syntax.specs.Trees.{negation, conjunction, disjunction, for_all, for_some, next, always, eventually, until, within, during}
+use Rattle.tl_syntax.specs.Trees.{no_formula, more_formulas}
 
 -- each definition that the formula names has a number below n
 abbrev mutual

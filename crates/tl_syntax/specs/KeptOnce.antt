@@ -21,12 +21,15 @@ use Rattle.tl_syntax.specs.Fits.{ArgFits, ArgsFit, BoundFits, VariablesFit, Term
 use Rattle.tl_syntax.specs.FreeVariables.{is_slot_in, slots_of, bound_slots, free_slots, effects_slots, InScope}
 use Rattle.tl_syntax.specs.Kept.{DeclarationKeeps, ParametersKeep, DefinitionKeeps, OperatorKeeps, DomainKeeps, FactKeeps, PlaceKeeps}
 use Rattle.tl_syntax.specs.Lists.{Each}
-use Rattle.tl_syntax.specs.Named.{ValueIsNamed, VariableIsNamed, ArgIsNamed, BoundIsNamed, TermIsNamed, TermsAreNamed, IsNamed, AreNamed, EffectIsNamed, EffectsAreNamed}
+use Rattle.tl_syntax.specs.Named.{ValueIsNamed, VariableIsNamed, ArgIsNamed, BoundIsNamed, TermIsNamed, TermsAreNamed, IsNamed, AreNamed}
+use Rattle.tl_syntax.specs.Named.{EffectIsNamed, EffectsAreNamed}
 use Rattle.tl_syntax.specs.Signature.{Signature, signature_of, with_definitions_below}
 use Rattle.tl_syntax.specs.StateFormulas.{IsState, AreState, EffectIsState, EffectsAreState}
 use Rattle.tl_syntax.specs.TreeOfEffect.{tree_of_effects}
 use Rattle.tl_syntax.specs.TreeOfFormula.{tree_of_formula}
-use Rattle.tl_syntax.specs.Trees.{TermTree, TermTrees, variable, value, place, arith, no_term, more_terms, FormulaTree, FormulaTrees, verum, falsum, atom, defined, compare, goal_fact, goal_place, goal_not, negation, conjunction, disjunction, for_all, for_some, next, always, eventually, until, within, during, no_formula, more_formulas}
+use Rattle.tl_syntax.specs.Trees.{TermTree, TermTrees, variable, value, place, arith, no_term, more_terms, FormulaTree, FormulaTrees, verum}
+use Rattle.tl_syntax.specs.Trees.{falsum, atom, defined, compare, goal_fact, goal_place, goal_not, negation, conjunction, disjunction}
+use Rattle.tl_syntax.specs.Trees.{for_all, for_some, next, always, eventually, until, within, during, no_formula, more_formulas}
 
 pub Each-prop : {A : Type 0} (P : A → Type 0) → ((x : A) → IsProp (P x)) → (xs : List A) → IsProp (Each P xs)
 Each-prop P p [] = hlevel
@@ -52,7 +55,14 @@ bound-prop g (bound.GoalNot p xs) = args-prop g.predicates p xs
 
 variables-prop : (g : Signature) (around : List ℕ) (ss : List Var) (b : Bound) → IsProp (VariablesFit g around ss b)
 variables-prop g around ss b =
-    hlevel (props, Each-prop {A = Var} (λ s. s.slot < 32) (λ s. hlevel props) ss, Each-prop {A = Var} (λ s. is_slot_in around s.slot ≡ false) (λ s. hlevel props) ss, differ-prop ss, Each-prop {A = Var} (λ s. IsTrue (stands_in s b)) (λ s. hlevel props) ss, bound-prop g b)
+    hlevel (
+      props,
+      Each-prop {A = Var} (λ s. s.slot < 32) (λ s. hlevel props) ss,
+      Each-prop {A = Var} (λ s. is_slot_in around s.slot ≡ false) (λ s. hlevel props) ss,
+      differ-prop ss,
+      Each-prop {A = Var} (λ s. IsTrue (stands_in s b)) (λ s. hlevel props) ss,
+      bound-prop g b,
+    )
 
 mutual
   unfolding TermFits
@@ -229,7 +239,14 @@ parameters-prop : (n most : ℕ) (ss : List Var) → IsProp (ParametersKeep n mo
 parameters-prop n most ss = hlevel (props, named_variables-prop n ss)
 
 definition-prop : (g : Signature) (n i : ℕ) (d : Definition) → IsProp (DefinitionKeeps g n i d)
-definition-prop g n i d = hlevel (props, parameters-prop n 8 d.params, state-prop (tree_of_formula d.body), scope-prop (slots_of d.params) (free_slots (tree_of_formula d.body)), fits-prop (with_definitions_below (i + 1) g) (slots_of d.params) (tree_of_formula d.body), named-prop n (tree_of_formula d.body))
+definition-prop g n i d = hlevel (
+  props,
+  parameters-prop n 8 d.params,
+  state-prop (tree_of_formula d.body),
+  scope-prop (slots_of d.params) (free_slots (tree_of_formula d.body)),
+  fits-prop (with_definitions_below (i + 1) g) (slots_of d.params) (tree_of_formula d.body),
+  named-prop n (tree_of_formula d.body),
+)
 
 operator-prop : (g : Signature) (n : ℕ) (o : Operator) → IsProp (OperatorKeeps g n o)
 operator-prop g n o = hlevel (

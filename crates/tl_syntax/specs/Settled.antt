@@ -13,7 +13,8 @@ IsInOrder names = (i j : ℕ) (x y : List ℕ) → i < j → slice_get names i �
 
 -- each old text stands among the new ones at the number that the list gives for its old number
 abbrev pub Renumbers : List ℕ → List (List ℕ) → List (List ℕ) → Type 0
-Renumbers numbers old new = (i : ℕ) (text : List ℕ) → slice_get old i ≡ Some text → (n : ℕ) × (slice_get numbers i ≡ Some n) × (slice_get new n ≡ Some text)
+Renumbers numbers old new = (i : ℕ) (text : List ℕ) → slice_get old i ≡ Some text → (n : ℕ) × (slice_get numbers i ≡ Some n) ×
+    (slice_get new n ≡ Some text)
 
 -- no item stands at two places
 abbrev pub Differ : {A : Type 0} → List A → Type 0

@@ -17,7 +17,8 @@ use Rattle.tl_syntax.specs.Trees.{FormulaTree, compare, goal_place}
 
 -- a comparison of two terms
 abbrev pub substituted_comparison : List Binding → Cmp → Term → Term → FormulaTree
-substituted_comparison bs c s t = compare c (substituted_term (assignment_of bs) (tree_of_term s)) (substituted_term (assignment_of bs) (tree_of_term t))
+substituted_comparison bs c s t = compare c (substituted_term (assignment_of bs) (tree_of_term s))
+    (substituted_term (assignment_of bs) (tree_of_term t))
 
 -- a place of the goal list with its value
 abbrev pub substituted_goal_place : List Binding → ℕ → List Arg → Arg → FormulaTree

@@ -3,7 +3,9 @@ use Rattle.std.specs.Prelude.{List}
 use Rattle.tl_syntax.specs.declared.formula.Formula.{Formula, Formula-F, fold-Formula}
 use Rattle.tl_syntax.specs.declared.formula.Formula.TheOpen as layer
 use Rattle.tl_syntax.specs.declared.formula.Formulas.{Formulas, Formulas-F, fold-Formulas}
-use Rattle.tl_syntax.specs.Trees.{FormulaTree, FormulaTrees, verum, falsum, atom, defined, compare, goal_fact, goal_place, goal_not, negation, conjunction, disjunction, for_all, for_some, next, always, eventually, until, within, during, formulas_of_list}
+use Rattle.tl_syntax.specs.Trees.{FormulaTree, FormulaTrees, verum, falsum, atom, defined, compare, goal_fact, goal_place, goal_not}
+use Rattle.tl_syntax.specs.Trees.{negation, conjunction, disjunction, for_all, for_some, next, always, eventually, until, within, during}
+use Rattle.tl_syntax.specs.Trees.{formulas_of_list}
 use Rattle.tl_syntax.specs.TreeOfTerm.{tree_of_term, tree_of_terms}
 
 -- one layer of a formula, whose parts are trees already

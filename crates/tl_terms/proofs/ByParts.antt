@@ -2,10 +2,12 @@
 use Rattle.std.proofs.Common.{List, [], ◌∷◌, map, flat_map, filter, Bool, true, false, cond, not, inl, inr, refl}
 use Rattle.std.specs.List.{list_any}
 use Rattle.tl_syntax.specs.Lists.{Each, Among}
-use Rattle.tl_syntax.specs.Trees.{FormulaTree, FormulaTrees, verum, falsum, negation, conjunction, disjunction, no_formula, more_formulas, formulas_of_list}
+use Rattle.tl_syntax.specs.Trees.{FormulaTree, FormulaTrees, verum, falsum, negation, conjunction, disjunction, no_formula, more_formulas}
+use Rattle.tl_syntax.specs.Trees.{formulas_of_list}
 use Rattle.tl_syntax.proofs.ListLaws.{Each-append}
 use Rattle.tl_terms.specs.Progression.{constant}
-use Rattle.tl_terms.specs.Simplification.{and_parts, and_parts_all, or_parts, or_parts_all, is_verum, is_falsum, without_repeats, conjunction_of, disjunction_of, simplified_and, simplified_or, simplified_not}
+use Rattle.tl_terms.specs.Simplification.{and_parts, and_parts_all, or_parts, or_parts_all, is_verum, is_falsum, without_repeats}
+use Rattle.tl_terms.specs.Simplification.{conjunction_of, disjunction_of, simplified_and, simplified_or, simplified_not}
 use Rattle.tl_terms.proofs.Simplification.{Each-without_repeats}
 
 -- each formula of the list
@@ -47,13 +49,15 @@ module _ (P : FormulaTree → Type 0) (by : GoesByParts P) where
     all-or-parts no_formula h = tt
     all-or-parts (more_formulas f fs) h = (Each-append P (or_parts f) (or_parts_all fs)).1 (or-parts f h.0, all-or-parts fs h.1)
 
-  each-flat : (parts : FormulaTree → List FormulaTree) → ((f : FormulaTree) → P f → Each P (parts f)) → (fs : List FormulaTree) → Each P fs → Each P (flat_map parts fs)
+  each-flat : (parts : FormulaTree → List FormulaTree) → ((f : FormulaTree) → P f → Each P (parts f)) → (fs : List FormulaTree) →
+      Each P fs → Each P (flat_map parts fs)
   each-flat parts k [] h = tt
   each-flat parts k (f ∷ fs) h = (Each-append P (parts f) (flat_map parts fs)).1 (k f h.0, each-flat parts k fs h.1)
 
   each-filter : (p : FormulaTree → Bool) (fs : List FormulaTree) → Each P fs → Each P (filter p fs)
   each-filter p [] h = tt
-  each-filter p (f ∷ fs) h = (elim (p f) as (λ b. Each P (cond b (f ∷ filter p fs) (filter p fs))) [ true ↦ (h.0, each-filter p fs h.1) | false ↦ each-filter p fs h.1 ])
+  each-filter p (f ∷ fs) h = (elim (p f) as (λ b. Each P (cond b (f ∷ filter p fs) (filter p fs)))
+      [ true ↦ (h.0, each-filter p fs h.1) | false ↦ each-filter p fs h.1 ])
 
   each-of-list : (fs : List FormulaTree) → Each P fs → EachOf P (formulas_of_list fs)
   each-of-list [] h = tt
@@ -73,15 +77,21 @@ module _ (P : FormulaTree → Type 0) (by : GoesByParts P) where
   unfolding simplified_and
   of-and fs h =
       let ps = flat_map and_parts fs in
-      let k = of-conjunction (without_repeats (filter (λ f. not (is_verum f)) ps)) ((Each-without_repeats P (filter (λ f. not (is_verum f)) ps)).1 (each-filter (λ f. not (is_verum f)) ps (each-flat and_parts and-parts fs h))) in
-      elim (list_any is_falsum ps) as (λ b. P (cond b falsum (conjunction_of (without_repeats (filter (λ f. not (is_verum f)) ps))))) [ true ↦ by.falsehood | false ↦ k ]
+      let k = of-conjunction (without_repeats (filter (λ f. not (is_verum f)) ps))
+      ((Each-without_repeats P (filter (λ f. not (is_verum f)) ps)).1
+      (each-filter (λ f. not (is_verum f)) ps (each-flat and_parts and-parts fs h))) in
+      elim (list_any is_falsum ps) as (λ b. P (cond b falsum (conjunction_of (without_repeats (filter (λ f. not (is_verum f)) ps)))))
+      [ true ↦ by.falsehood | false ↦ k ]
 
   pub of-or : (fs : List FormulaTree) → Each P fs → P (simplified_or fs)
   unfolding simplified_or
   of-or fs h =
       let ps = flat_map or_parts fs in
-      let k = of-disjunction (without_repeats (filter (λ f. not (is_falsum f)) ps)) ((Each-without_repeats P (filter (λ f. not (is_falsum f)) ps)).1 (each-filter (λ f. not (is_falsum f)) ps (each-flat or_parts or-parts fs h))) in
-      elim (list_any is_verum ps) as (λ b. P (cond b verum (disjunction_of (without_repeats (filter (λ f. not (is_falsum f)) ps))))) [ true ↦ by.truth | false ↦ k ]
+      let k = of-disjunction (without_repeats (filter (λ f. not (is_falsum f)) ps))
+      ((Each-without_repeats P (filter (λ f. not (is_falsum f)) ps)).1
+      (each-filter (λ f. not (is_falsum f)) ps (each-flat or_parts or-parts fs h))) in
+      elim (list_any is_verum ps) as (λ b. P (cond b verum (disjunction_of (without_repeats (filter (λ f. not (is_falsum f)) ps)))))
+      [ true ↦ by.truth | false ↦ k ]
 
   pub of-not : (f : FormulaTree) → P f → P (simplified_not f)
   unfolding simplified_not

@@ -6,7 +6,9 @@ use Rattle.tl_syntax.specs.Fits.{VariablesFit, Fits, AllFit}
 use Rattle.tl_syntax.specs.FreeVariables.{is_slot_in, slots_of}
 use Rattle.tl_syntax.specs.Lists.{Each}
 use Rattle.tl_syntax.specs.Signature.{Signature}
-use Rattle.tl_syntax.specs.Trees.{FormulaTree, FormulaTrees, verum, falsum, atom, defined, compare, goal_fact, goal_place, goal_not, negation, conjunction, disjunction, for_all, for_some, next, always, eventually, until, within, during, no_formula, more_formulas}
+use Rattle.tl_syntax.specs.Trees.{FormulaTree, FormulaTrees, verum, falsum, atom, defined, compare, goal_fact, goal_place, goal_not}
+use Rattle.tl_syntax.specs.Trees.{negation, conjunction, disjunction, for_all, for_some, next, always, eventually, until, within, during}
+use Rattle.tl_syntax.specs.Trees.{no_formula, more_formulas}
 
 -- what is none of the first slots is none of the second
 abbrev Fewer : List ℕ → List ℕ → Type 0
@@ -14,14 +16,24 @@ Fewer around less = (q : ℕ) → is_slot_in around q ≡ false → is_slot_in l
 
 fewer-below : (xs around less : List ℕ) → Fewer around less → Fewer (xs ++ around) (xs ++ less)
 fewer-below [] around less f q h = f q h
-fewer-below (x ∷ xs) around less f q h = (elim (q == x) as (λ b. (b || is_slot_in (xs ++ around) q) ≡ false → (b || is_slot_in (xs ++ less) q) ≡ false) [ true ↦ λ k. k | false ↦ λ k. fewer-below xs around less f q k ]) h
+fewer-below (x ∷ xs) around less f q h = (elim (q == x) as (λ b. (b || is_slot_in (xs ++ around) q) ≡ false →
+    (b || is_slot_in (xs ++ less) q) ≡ false) [ true ↦ λ k. k | false ↦ λ k. fewer-below xs around less f q k ]) h
 
-fresh-fewer : (ss : List Var) (around less : List ℕ) → Fewer around less → Each (λ s. is_slot_in around s.slot ≡ false) ss → Each (λ s. is_slot_in less s.slot ≡ false) ss
+fresh-fewer : (ss : List Var) (around less : List ℕ) → Fewer around less → Each (λ s. is_slot_in around s.slot ≡ false) ss →
+    Each (λ s. is_slot_in less s.slot ≡ false) ss
 fresh-fewer [] around less f h = tt
 fresh-fewer (s ∷ ss) around less f h = (f s.slot h.0, fresh-fewer ss around less f h.1)
 
-variables-fewer : (g : Signature) (around less : List ℕ) (ss : List Var) (b : Bound) → Fewer around less → VariablesFit g around ss b → VariablesFit g less ss b
-variables-fewer g around less ss b f v = record { frame = v.frame; fresh = fresh-fewer ss around less f v.fresh; differ = v.differ; occur = v.occur; bound = v.bound }
+variables-fewer : (g : Signature) (around less : List ℕ) (ss : List Var) (b : Bound) → Fewer around less → VariablesFit g around ss b →
+    VariablesFit g less ss b
+variables-fewer g around less ss b f v = record {
+  frame = v.frame;
+  fresh = fresh-fewer ss around less f v.fresh;
+  differ = v.differ;
+  occur =
+      v.occur;
+  bound = v.bound;
+}
 
 mutual
   unfolding Fits
@@ -38,8 +50,14 @@ mutual
   fits-fewer g around less (negation f) k h = fits-fewer g around less f k h
   fits-fewer g around less (conjunction fs) k h = all-fewer g around less fs k h
   fits-fewer g around less (disjunction fs) k h = all-fewer g around less fs k h
-  fits-fewer g around less (for_all ss b f) k h = (variables-fewer g around less ss b k h.0, fits-fewer g (slots_of ss ++ around) (slots_of ss ++ less) f (fewer-below (slots_of ss) around less k) h.1)
-  fits-fewer g around less (for_some ss b f) k h = (variables-fewer g around less ss b k h.0, fits-fewer g (slots_of ss ++ around) (slots_of ss ++ less) f (fewer-below (slots_of ss) around less k) h.1)
+  fits-fewer g around less (for_all ss b f) k h = (
+    variables-fewer g around less ss b k h.0,
+    fits-fewer g (slots_of ss ++ around) (slots_of ss ++ less) f (fewer-below (slots_of ss) around less k) h.1,
+  )
+  fits-fewer g around less (for_some ss b f) k h = (
+    variables-fewer g around less ss b k h.0,
+    fits-fewer g (slots_of ss ++ around) (slots_of ss ++ less) f (fewer-below (slots_of ss) around less k) h.1,
+  )
   fits-fewer g around less (next f) k h = fits-fewer g around less f k h
   fits-fewer g around less (always f) k h = fits-fewer g around less f k h
   fits-fewer g around less (eventually f) k h = fits-fewer g around less f k h

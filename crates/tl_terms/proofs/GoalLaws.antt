@@ -17,9 +17,13 @@ is_value-iff (Some u) v = (λ e. value-itself u v (let q : u ≡ v = cc in q), �
 pub goal-by-membership : (w goal avoid : World) → (meets_goal w goal avoid ≡ true) ↔ MeetsGoal w goal avoid
 unfolding meets_goal
 goal-by-membership w goal avoid =
-    let facts = iff-trans (iff-sym (Each-Among (λ k. has_fact w k ≡ true) (set.items goal.facts))) (all-iff (λ k. has_fact w k ≡ true) (has_fact w) (λ k. (λ h. h, λ h. h)) (set.items goal.facts)) in
-    let places = iff-trans (iff-sym (Each-Among (λ (x : Key × Value). value_at w x.0 ≡ Some x.1) (dict.entries goal.places))) (all-iff (λ (x : Key × Value). value_at w x.0 ≡ Some x.1) (λ (x : Key × Value). is_value (value_at w x.0) x.1) (λ x. is_value-iff (value_at w x.0) x.1) (dict.entries goal.places)) in
-    let avoided = iff-trans (iff-sym (Each-Among (λ k. has_fact w k ≡ true → ⊥) (set.items avoid.facts))) (all-iff (λ k. has_fact w k ≡ true → ⊥) (λ k. not (has_fact w k)) (λ k. not-iff (λ h. h, λ h. h)) (set.items avoid.facts)) in
+    let facts = iff-trans (iff-sym (Each-Among (λ k. has_fact w k ≡ true) (set.items goal.facts)))
+    (all-iff (λ k. has_fact w k ≡ true) (has_fact w) (λ k. (λ h. h, λ h. h)) (set.items goal.facts)) in
+    let places = iff-trans (iff-sym (Each-Among (λ (x : Key × Value). value_at w x.0 ≡ Some x.1) (dict.entries goal.places)))
+    (all-iff (λ (x : Key × Value). value_at w x.0 ≡ Some x.1) (λ (x : Key × Value). is_value (value_at w x.0) x.1)
+    (λ x. is_value-iff (value_at w x.0) x.1) (dict.entries goal.places)) in
+    let avoided = iff-trans (iff-sym (Each-Among (λ k. has_fact w k ≡ true → ⊥) (set.items avoid.facts)))
+    (all-iff (λ k. has_fact w k ≡ true → ⊥) (λ k. not (has_fact w k)) (λ k. not-iff (λ h. h, λ h. h)) (set.items avoid.facts)) in
     let all = and-iff facts (and-iff places avoided) in (
       λ h. let k = all.1 h in record {
         facts = λ x m. k.0 x ((fact-among goal x).1 m);

@@ -9,7 +9,9 @@ use Rattle.tl_syntax.specs.Lists.{Each, AtLeastOne}
 use Rattle.tl_terms.specs.Problem.{PlainProblem}
 use Rattle.tl_terms.specs.Run.{Situations, Holds, HoldAll, HoldsOne, situations_of, Satisfies, SatisfiesAlong, idle_run}
 use Rattle.tl_terms.specs.Situation.{Situation}
-use Rattle.tl_syntax.specs.Trees.{FormulaTree, verum, falsum, atom, defined, compare, goal_fact, goal_place, goal_not, negation, conjunction, disjunction, for_all, for_some, next, always, eventually, until, within, during, FormulaTrees, no_formula, more_formulas}
+use Rattle.tl_syntax.specs.Trees.{FormulaTree, verum, falsum, atom, defined, compare, goal_fact, goal_place, goal_not, negation}
+use Rattle.tl_syntax.specs.Trees.{conjunction, disjunction, for_all, for_some, next, always, eventually, until, within, during}
+use Rattle.tl_syntax.specs.Trees.{FormulaTrees, no_formula, more_formulas}
 use Rattle.tl_terms.specs.Truth.{state_true}
 use Rattle.tl_terms.specs.World.{World}
 use Rattle.tl_syntax.proofs.ListLaws.{iff-trans, iff-path, and-iff, or-iff, not-iff, all-iff, any-iff}
@@ -40,7 +42,11 @@ module _ (r : Situations) (s : Situation) (still : (j : ℕ) → r j ≡ s) wher
     Holds-idle e (next f) i = Holds-idle e f (suc i)
     Holds-idle e (always f) i = (λ h. (Holds-idle e f i).0 (h i (omega arith)), λ b j q. (Holds-idle e f j).1 b)
     Holds-idle e (eventually f) i = (λ h. (Holds-idle e f h.0).0 h.2, λ b. (i, omega arith, (Holds-idle e f i).1 b))
-    Holds-idle e (until f g) i = (λ h. (Holds-idle e g h.0).0 h.2, λ b. (i, omega arith, (Holds-idle e g i).1 b, λ k p q. absurd (omega arith)))
+    Holds-idle e (until f g) i = (
+      λ h. (Holds-idle e g h.0).0 h.2,
+      λ b.
+          (i, omega arith, (Holds-idle e g i).1 b, λ k p q. absurd (omega arith)),
+    )
     Holds-idle e (within n f) i = (λ h. (Holds-idle e f h.0).0 h.3, λ b. (i, omega arith, omega arith, (Holds-idle e f i).1 b))
     Holds-idle e (during n f) i = (λ h. (Holds-idle e f i).0 (h i (omega arith) (omega arith)), λ b j p q. (Holds-idle e f j).1 b)
 
@@ -53,13 +59,17 @@ module _ (r : Situations) (s : Situation) (still : (j : ℕ) → r j ≡ s) wher
     one-idle e (more_formulas f fs) i = or-iff (Holds-idle e f i) (one-idle e fs i)
 
 -- the idling check is truth on the run that repeats the world for ever
-pub Satisfies-idle : (p : PlainProblem) (w : World) (i : ℕ) (f : FormulaTree) → Satisfies p (idle_run w) i f ↔ (idle_true (situation_of p w) no_values f ≡ true)
+pub Satisfies-idle : (p : PlainProblem) (w : World) (i : ℕ) (f : FormulaTree) → Satisfies p (idle_run w) i f ↔
+    (idle_true (situation_of p w) no_values f ≡ true)
 unfolding SatisfiesAlong
-Satisfies-idle p w i f = Holds-idle (situations_of p (idle_run w)) (situation_of p w) (λ j. ap (situation_of p) (state-idle w j)) no_values f i
+Satisfies-idle p w i f = Holds-idle (situations_of p (idle_run w)) (situation_of p w)
+    (λ j. ap (situation_of p) (state-idle w j)) no_values f i
 
 -- where a world is repeated for ever, each temporal word of one formula means the formula, and `until` means its second part
-idle-same : (p : PlainProblem) (w : World) (i : ℕ) (f g : FormulaTree) → idle_true (situation_of p w) no_values f ≡ idle_true (situation_of p w) no_values g → Satisfies p (idle_run w) i f ↔ Satisfies p (idle_run w) i g
-idle-same p w i f g e = iff-trans (Satisfies-idle p w i f) (iff-trans (iff-path (λ b. b ≡ true) e) (let k = Satisfies-idle p w i g in (k.1, k.0)))
+idle-same : (p : PlainProblem) (w : World) (i : ℕ) (f g : FormulaTree) → idle_true (situation_of p w) no_values f ≡
+    idle_true (situation_of p w) no_values g → Satisfies p (idle_run w) i f ↔ Satisfies p (idle_run w) i g
+idle-same p w i f g e = iff-trans (Satisfies-idle p w i f) (iff-trans (iff-path (λ b. b ≡ true) e)
+    (let k = Satisfies-idle p w i g in (k.1, k.0)))
 
 pub idle-words : (p : PlainProblem) (w : World) (i n : ℕ) (f g : FormulaTree) → IdleWords p w i n f g
 unfolding idle_true

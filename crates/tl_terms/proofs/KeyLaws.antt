@@ -1,5 +1,6 @@
 -- Tests on keys and values, and the items and entries of a world.
-use Rattle.std.proofs.Common.{◌≡◌, ◌↔◌, ◌⊎◌, List, [], ◌∷◌, map, true, false, cond, true≢false, Some, Less, Equal, refl, sym, ap, ◌∙◌, inl, inr}
+use Rattle.std.proofs.Common.{◌≡◌, ◌↔◌, ◌⊎◌, List, [], ◌∷◌, map, true, false, cond, true≢false, Some, Less, Equal, refl, sym, ap, ◌∙◌, inl}
+use Rattle.std.proofs.Common.{inr}
 use Rattle.std.specs.List.{list_any}
 use Rattle.std.specs.FinSet as set
 use Rattle.std.specs.FinMap as dict
@@ -35,16 +36,20 @@ fact-among w k = iff-trans (key-among k (set.items w.facts)) (iff-path (λ b. b 
 
 pub entry_of : (es : List (Key × Value)) (k : Key) (u : Value) → dict.find key_cmp k es ≡ Some u → Among (k, u) es
 entry_of [] k u h = cc
-entry_of (x ∷ es) k u h = (elim (eq_by_cmp key_cmp k x.0) as (λ b. eq_by_cmp key_cmp k x.0 ≡ b → cond b (Some x.1) (dict.find key_cmp k es) ≡ Some u → x ≡ (k, u) ⊎ Among (k, u) es) [
-  | true ↦ λ q m. let a : x.0 ≡ k = sym (key_ties k x.0 ((Equal-is (key_cmp k x.0)).0 q)) in let b : x.1 ≡ u = cc in inl (λ i. (a i, b i))
-  | false ↦ λ q m. inr (entry_of es k u m)
-]) refl h
+entry_of (x ∷ es) k u h = (elim (eq_by_cmp key_cmp k x.0) as (λ b. eq_by_cmp key_cmp k x.0 ≡ b →
+    cond b (Some x.1) (dict.find key_cmp k es) ≡ Some u → x ≡ (k, u) ⊎ Among (k, u) es) [
+      | true ↦ λ q m. let a : x.0 ≡ k = sym (key_ties k x.0 ((Equal-is (key_cmp k x.0)).0 q)) in let b : x.1 ≡ u = cc in
+          inl (λ i. (a i, b i))
+      | false ↦ λ q m. inr (entry_of es k u m)
+    ]) refl h
 
 -- in a list of rising keys, an entry is the one that is found
-entry-found : (es : List (Key × Value)) → Rises key_cmp (map (λ x. x.0) es) → (k : Key) (u : Value) → Among (k, u) es → dict.find key_cmp k es ≡ Some u
+entry-found : (es : List (Key × Value)) → Rises key_cmp (map (λ x. x.0) es) → (k : Key) (u : Value) → Among (k, u) es →
+    dict.find key_cmp k es ≡ Some u
 entry-found [] r k u m = absurd m
 entry-found (x ∷ es) r k u m = elim m [
-  | inl e ↦ ap (λ b. cond b (Some x.1) (dict.find key_cmp k es)) (key-itself k x.0 (ap (λ (y : Key × Value). y.0) e)) ∙ ap (λ (y : Key × Value). Some y.1) e
+  | inl e ↦ ap (λ b. cond b (Some x.1) (dict.find key_cmp k es)) (key-itself k x.0 (ap (λ (y : Key × Value). y.0) e)) ∙
+      ap (λ (y : Key × Value). Some y.1) e
   | inr n ↦ ap (λ b. cond b (Some x.1) (dict.find key_cmp k es)) (later n) ∙ entry-found es r.1 k u n
 ]
   where
@@ -63,6 +68,7 @@ entry-found (x ∷ es) r k u m = elim m [
 -- the entries of the places are the places with their values
 pub place-among : (w : World) (k : Key) (u : Value) → Among (k, u) (dict.entries w.places) ↔ (value_at w k ≡ Some u)
 place-among w k u = (
-  λ m. dict.get-entries w.places k ∙ entry-found (dict.entries w.places) (keys-rise key_cmp (dict.entries w.places) (dict.entries_sorted w.places)) k u m,
+  λ m. dict.get-entries w.places k ∙ entry-found (dict.entries w.places)
+      (keys-rise key_cmp (dict.entries w.places) (dict.entries_sorted w.places)) k u m,
   λ h. entry_of (dict.entries w.places) k u (sym (dict.get-entries w.places k) ∙ h),
 )

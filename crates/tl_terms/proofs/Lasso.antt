@@ -6,7 +6,9 @@ use Rattle.tl_syntax.specs.Assignment.{Assignment, bind}
 use Rattle.tl_terms.specs.Bounds.{tuples}
 use Rattle.tl_syntax.specs.Lists.{Each, AtLeastOne}
 use Rattle.tl_terms.specs.Run.{Situations, Holds, HoldAll, HoldsOne}
-use Rattle.tl_syntax.specs.Trees.{FormulaTree, verum, falsum, atom, defined, compare, goal_fact, goal_place, goal_not, negation, conjunction, disjunction, for_all, for_some, next, always, eventually, until, within, during, FormulaTrees, no_formula, more_formulas}
+use Rattle.tl_syntax.specs.Trees.{FormulaTree, verum, falsum, atom, defined, compare, goal_fact, goal_place, goal_not, negation}
+use Rattle.tl_syntax.specs.Trees.{conjunction, disjunction, for_all, for_some, next, always, eventually, until, within, during}
+use Rattle.tl_syntax.specs.Trees.{FormulaTrees, no_formula, more_formulas}
 use Rattle.tl_terms.specs.Truth.{state_true}
 use Rattle.tl_syntax.proofs.ListLaws.{iff-trans, iff-path, Each-map, One-map}
 
@@ -29,14 +31,20 @@ One-dec P d (x ∷ xs) = either (d x) (One-dec P d xs)
     either (no h) (no k) = no (elim [ inl m ↦ h m | inr m ↦ k m ])
 
 -- among the n numbers from i on, one at which Q holds, or no_formula
-search_from : (Q : ℕ → Type 0) → ((j : ℕ) → Dec (Q j)) → (i n : ℕ) → ((j : ℕ) × (i ≤ j) × (j < i + n) × Q j) ⊎ ((j : ℕ) → i ≤ j → j < i + n → Q j → ⊥)
+search_from : (Q : ℕ → Type 0) → ((j : ℕ) → Dec (Q j)) → (i n : ℕ) → ((j : ℕ) × (i ≤ j) × (j < i + n) × Q j) ⊎
+    ((j : ℕ) → i ≤ j → j < i + n → Q j → ⊥)
 search_from Q d i zero = inr (λ j p q h. omega arith)
 search_from Q d i (suc n) = go (search_from Q d i n) (d (i + n))
   where
-    go : ((j : ℕ) × (i ≤ j) × (j < i + n) × Q j) ⊎ ((j : ℕ) → i ≤ j → j < i + n → Q j → ⊥) → Dec (Q (i + n)) → ((j : ℕ) × (i ≤ j) × (j < i + suc n) × Q j) ⊎ ((j : ℕ) → i ≤ j → j < i + suc n → Q j → ⊥)
+    go : ((j : ℕ) × (i ≤ j) × (j < i + n) × Q j) ⊎ ((j : ℕ) → i ≤ j → j < i + n → Q j → ⊥) → Dec (Q (i + n)) →
+        ((j : ℕ) × (i ≤ j) × (j < i + suc n) × Q j) ⊎ ((j : ℕ) → i ≤ j → j < i + suc n → Q j → ⊥)
     go (inl w) e = inl (w.0, w.1, omega arith, w.3)
     go (inr not_yet) (yes h) = inl (i + n, omega arith, omega arith, h)
-    go (inr not_yet) (no h) = inr (λ j p q k. elim (dec_lt j (i + n)) [ yes s ↦ not_yet j p s k | no s ↦ h (subst Q (let e : j ≡ i + n = omega arith in e) k) ])
+    go (inr not_yet) (no h) = inr (λ j p q k. elim (dec_lt j (i + n)) [
+      | yes s ↦ not_yet j p s k
+      | no s ↦ h
+          (subst Q (let e : j ≡ i + n = omega arith in e) k)
+    ])
 
 module _ (r : Situations) (stem period : ℕ) (rises : 0 < period) (again : (j : ℕ) → stem ≤ j → r (j + period) ≡ r j) where
   -- past the stem, what holds at a position holds one period later, and the other way round
@@ -63,7 +71,8 @@ module _ (r : Situations) (stem period : ℕ) (rises : 0 < period) (again : (j :
         iff-trans
         (One-map (λ t. repeats (bind ss t e) f j s) (tuples (r j) e ss b))
         (iff-path (λ w. AtLeastOne (λ t. Holds r (bind ss t e) f (j + period)) (tuples w e ss b)) (sym (again j s)))
-    repeats e (next f) j s = iff-trans (repeats e f (suc j) (omega arith)) (iff-path (Holds r e f) (let q : suc j + period ≡ suc (j + period) = omega arith in q))
+    repeats e (next f) j s = iff-trans (repeats e f (suc j) (omega arith))
+        (iff-path (Holds r e f) (let q : suc j + period ≡ suc (j + period) = omega arith in q))
     repeats e (always f) j s = (λ h k q. h k (omega arith), λ h k q. (repeats e f k (omega arith)).1 (h (k + period) (omega arith)))
     repeats e (eventually f) j s = (λ h. (h.0 + period, omega arith, (repeats e f h.0 (omega arith)).0 h.2), λ h. (h.0, omega arith, h.2))
     repeats e (until f g) j s = (
@@ -71,7 +80,8 @@ module _ (r : Situations) (stem period : ℕ) (rises : 0 < period) (again : (j :
         h.0 + period,
         omega arith,
         (repeats e g h.0 (omega arith)).0 h.2,
-        λ k p q. subst (Holds r e f) (let m : k - period + period ≡ k = omega arith in m) ((repeats e f (k - period) (omega arith)).0 (h.3 (k - period) (omega arith) (omega arith))),
+        λ k p q. subst (Holds r e f) (let m : k - period + period ≡ k = omega arith in m)
+            ((repeats e f (k - period) (omega arith)).0 (h.3 (k - period) (omega arith) (omega arith))),
       ),
       λ h. (
         h.0 - period,
@@ -90,7 +100,8 @@ module _ (r : Situations) (stem period : ℕ) (rises : 0 < period) (again : (j :
       ),
     )
     repeats e (during n f) j s = (
-      λ h k p q. subst (Holds r e f) (let m : k - period + period ≡ k = omega arith in m) ((repeats e f (k - period) (omega arith)).0 (h (k - period) (omega arith) (omega arith))),
+      λ h k p q. subst (Holds r e f) (let m : k - period + period ≡ k = omega arith in m)
+          ((repeats e f (k - period) (omega arith)).0 (h (k - period) (omega arith) (omega arith))),
       λ h k p q. (repeats e f k (omega arith)).1 (h (k + period) (omega arith) (omega arith)),
     )
 
@@ -109,14 +120,17 @@ module _ (r : Situations) (stem period : ℕ) (rises : 0 < period) (again : (j :
     )
 
   -- a position at which Q holds lies before the first period past i is over, or nowhere from i on
-  nowhere : (Q : ℕ → Type 0) (i : ℕ) → ((j : ℕ) → stem ≤ j → i ≤ j → Q (j + period) → Q j) → ((j : ℕ) → i ≤ j → j < i + (stem + period) → Q j → ⊥) → (n j : ℕ) → j < n → i ≤ j → Q j → ⊥
+  nowhere : (Q : ℕ → Type 0) (i : ℕ) → ((j : ℕ) → stem ≤ j → i ≤ j → Q (j + period) → Q j) →
+      ((j : ℕ) → i ≤ j → j < i + (stem + period) → Q j → ⊥) → (n j : ℕ) → j < n → i ≤ j → Q j → ⊥
   nowhere Q i back never zero j s p h = omega arith
   nowhere Q i back never (suc n) j s p h = elim (dec_lt j (i + (stem + period))) [
     | yes q ↦ never j p q h
-    | no q ↦ nowhere Q i back never n (j - period) (omega arith) (omega arith) (back (j - period) (omega arith) (omega arith) (subst Q (let m : j ≡ j - period + period = omega arith in m) h))
+    | no q ↦ nowhere Q i back never n (j - period) (omega arith) (omega arith)
+        (back (j - period) (omega arith) (omega arith) (subst Q (let m : j ≡ j - period + period = omega arith in m) h))
   ]
 
-  decide_some : (Q : ℕ → Type 0) (i : ℕ) → ((j : ℕ) → stem ≤ j → i ≤ j → Q (j + period) → Q j) → ((j : ℕ) → Dec (Q j)) → Dec ((j : ℕ) × (i ≤ j) × Q j)
+  decide_some : (Q : ℕ → Type 0) (i : ℕ) → ((j : ℕ) → stem ≤ j → i ≤ j → Q (j + period) → Q j) → ((j : ℕ) → Dec (Q j)) →
+      Dec ((j : ℕ) × (i ≤ j) × Q j)
   decide_some Q i back d = elim (search_from Q d i (stem + period)) [
     | inl w ↦ yes (w.0, w.1, w.3)
     | inr never ↦ no (λ w. nowhere Q i back never (suc w.0) w.0 (omega arith) w.1 w.2)
@@ -159,7 +173,8 @@ module _ (r : Situations) (stem period : ℕ) (rises : 0 < period) (again : (j :
     decided e (for_some ss b f) i = One-dec (λ t. Holds r (bind ss t e) f i) (λ t. decided (bind ss t e) f i) (tuples (r i) e ss b)
     decided e (next f) i = decided e f (suc i)
     decided e (always f) i =
-        elim (decide_some (λ j. Holds r e f j → ⊥) i (λ j s p h k. h ((repeats e f j s).0 k)) (λ j. elim (decided e f j) [ yes h ↦ no (λ k. k h) | no h ↦ yes h ])) [
+        elim (decide_some (λ j. Holds r e f j → ⊥) i (λ j s p h k. h ((repeats e f j s).0 k))
+        (λ j. elim (decided e f j) [ yes h ↦ no (λ k. k h) | no h ↦ yes h ])) [
           | yes w ↦ no (λ h. w.2 (h w.0 w.1))
           | no never ↦ yes (λ j p. elim (decided e f j) [ yes h ↦ h | no h ↦ absurd (never (j, p, h)) ])
         ]

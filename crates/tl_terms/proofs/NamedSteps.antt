@@ -1,5 +1,6 @@
 -- The step of a named action in a named world leads to a named world.
-use Rattle.std.proofs.Common.{◌≡◌, ℕ, zero, suc, List, [], ◌∷◌, flat_map, slice_get, Bool, true, false, cond, ◌==◌, Option, Some, None, inl, inr, refl, subst}
+use Rattle.std.proofs.Common.{◌≡◌, ℕ, zero, suc, List, [], ◌∷◌, flat_map, slice_get, Bool, true, false, cond, ◌==◌, Option, Some, None, inl}
+use Rattle.std.proofs.Common.{inr, refl, subst}
 use Rattle.std.specs.FinSet as set
 use Rattle.std.specs.FinMap as dict
 use Rattle.tl_syntax.specs.declared.action.Action.{Action}
@@ -20,7 +21,8 @@ use Rattle.tl_terms.specs.Definitions.{situation_of}
 use Rattle.tl_terms.specs.NamedWorlds.{WorldIsNamed}
 use Rattle.tl_terms.specs.Problem.{PlainOperator, PlainProblem}
 use Rattle.tl_terms.specs.Situation.{Situation}
-use Rattle.tl_terms.specs.Step.{EffectInstance, adds, dels, sets, effect_instances, all_instances, added, deleted, given, changed, applied, applied_if, step}
+use Rattle.tl_terms.specs.Step.{EffectInstance, adds, dels, sets, effect_instances, all_instances, added, deleted, given, changed, applied}
+use Rattle.tl_terms.specs.Step.{applied_if, step}
 use Rattle.tl_terms.specs.Terms.{apply_op, prepend, place_value, term_value, term_values}
 use Rattle.tl_terms.specs.Truth.{state_true}
 use Rattle.tl_terms.specs.World.{World, values_in, values_of}
@@ -37,7 +39,8 @@ AssignmentIsNamed n e = (q : ℕ) (v : Value) → e q ≡ Some v → ValueIsName
 pub nothing-named : (n : ℕ) → AssignmentIsNamed n no_values
 nothing-named n q v h = absurd (let z : ⊥ = cc in z)
 
-pub bound-named : (n : ℕ) (ss : List Var) (t : List Value) (e : Assignment) → AssignmentIsNamed n e → Each (ValueIsNamed n) t → AssignmentIsNamed n (bind ss t e)
+pub bound-named : (n : ℕ) (ss : List Var) (t : List Value) (e : Assignment) → AssignmentIsNamed n e → Each (ValueIsNamed n) t →
+    AssignmentIsNamed n (bind ss t e)
 bound-named n [] t e h k q v r = h q v r
 bound-named n (s ∷ ss) [] e h k q v r = (elim (q == s.slot) as (λ b. cond b None (bind ss [] e q) ≡ Some v → ValueIsNamed n v) [
   | true ↦ λ z. absurd (let f : ⊥ = cc in f)
@@ -50,7 +53,8 @@ bound-named n (s ∷ ss) (x ∷ t) e h k q v r = (elim (q == s.slot) as (λ b. c
 
 -- ---- terms
 
-prepended : (o : Option Value) (r : Option (List Value)) (t : List Value) → prepend o r ≡ Some t → (v : Value) × (us : List Value) × (o ≡ Some v) × (r ≡ Some us) × (v ∷ us ≡ t)
+prepended : (o : Option Value) (r : Option (List Value)) (t : List Value) → prepend o r ≡ Some t → (v : Value) × (us : List Value) ×
+    (o ≡ Some v) × (r ≡ Some us) × (v ∷ us ≡ t)
 prepended (Some v) (Some us) t q = let e : v ∷ us ≡ t = cc in (v, us, refl, refl, e)
 prepended (Some v) None t q = absurd (let z : ⊥ = cc in z)
 prepended None r t q = absurd (let z : ⊥ = cc in z)
@@ -63,7 +67,8 @@ computed n op (Some (Int a)) None v q = absurd (let z : ⊥ = cc in z)
 computed n op (Some (Sym a)) b v q = absurd (let z : ⊥ = cc in z)
 computed n op None b v q = absurd (let z : ⊥ = cc in z)
 
-placed : (n : ℕ) (w : World) (f : ℕ) (o : Option (List Value)) (v : Value) → WorldIsNamed n w → place_value w f o ≡ Some v → ValueIsNamed n v
+placed : (n : ℕ) (w : World) (f : ℕ) (o : Option (List Value)) (v : Value) → WorldIsNamed n w → place_value w f o ≡ Some v →
+    ValueIsNamed n v
 placed n w f (Some vs) v h q = (h.places (f, vs) v q).1
 placed n w f None v h q = absurd (let z : ⊥ = cc in z)
 
@@ -86,13 +91,16 @@ module _ (n : ℕ) (w : World) (world : WorldIsNamed n w) (e : Assignment) (give
 -- ---- tuples of a bound
 
 in-world : (n : ℕ) (w : World) (v : Value) → WorldIsNamed n w → Among v (values_in w) → ValueIsNamed n v
-in-world n w v h m = elim ((One-append (λ y. y ≡ v) (flat_map (λ k. k.1) (set.items w.facts)) (flat_map (λ x. x.1 ∷ x.0.1) (dict.entries w.places))).0 m) [
-  | inl f ↦ (let k = one_out (λ (x : Key). Among v x.1) (set.items w.facts) ((One-flat (λ y. y ≡ v) (λ (x : Key). x.1) (set.items w.facts)).0 f) in
-      (Each-Among (ValueIsNamed n) k.0.1).0 (h.facts k.0 ((fact-among w k.0).0 k.1.0)) v k.1.1)
-  | inr p ↦ (let x = one_out (λ (x : Key × Value). Among v (x.1 ∷ x.0.1)) (dict.entries w.places) ((One-flat (λ y. y ≡ v) (λ (x : Key × Value). x.1 ∷ x.0.1) (dict.entries w.places)).0 p) in
-      let at = h.places x.0.0 x.0.1 ((place-among w x.0.0 x.0.1).0 x.1.0) in
-      (Each-Among (ValueIsNamed n) (x.0.1 ∷ x.0.0.1)).0 (at.1, at.0) v x.1.1)
-]
+in-world n w v h m = elim ((One-append (λ y. y ≡ v) (flat_map (λ k. k.1) (set.items w.facts))
+    (flat_map (λ x. x.1 ∷ x.0.1) (dict.entries w.places))).0 m) [
+      | inl f ↦ (let k = one_out (λ (x : Key). Among v x.1) (set.items w.facts)
+          ((One-flat (λ y. y ≡ v) (λ (x : Key). x.1) (set.items w.facts)).0 f) in
+          (Each-Among (ValueIsNamed n) k.0.1).0 (h.facts k.0 ((fact-among w k.0).0 k.1.0)) v k.1.1)
+      | inr p ↦ (let x = one_out (λ (x : Key × Value). Among v (x.1 ∷ x.0.1)) (dict.entries w.places)
+          ((One-flat (λ y. y ≡ v) (λ (x : Key × Value). x.1 ∷ x.0.1) (dict.entries w.places)).0 p) in
+          let at = h.places x.0.0 x.0.1 ((place-among w x.0.0 x.0.1).0 x.1.0) in
+          (Each-Among (ValueIsNamed n) (x.0.1 ∷ x.0.0.1)).0 (at.1, at.0) v x.1.1)
+    ]
 
 -- the worlds of a situation are named
 pub record SituationIsNamed (n : ℕ) (s : Situation) : Type 0 where
@@ -102,14 +110,17 @@ pub record SituationIsNamed (n : ℕ) (s : Situation) : Type 0 where
 
 in-situation : (n : ℕ) (s : Situation) (v : Value) → SituationIsNamed n s → Among v (values_of (worlds_of s)) → ValueIsNamed n v
 in-situation n s v h m =
-    let w = one_out (λ (x : World). Among v (values_in x)) (worlds_of s) ((One-flat (λ y. y ≡ v) values_in (worlds_of s)).0 ((Among-values_of (worlds_of s) v).0 m)) in
+    let w = one_out (λ (x : World). Among v (values_in x)) (worlds_of s)
+    ((One-flat (λ y. y ≡ v) values_in (worlds_of s)).0 ((Among-values_of (worlds_of s) v).0 m)) in
     in-world n w.0 v ((Each-Among (WorldIsNamed n) (worlds_of s)).0 (h.world, (h.goal, (h.avoid, tt))) w.0 w.1.0) w.1.1
 
-each-among : (n : ℕ) (s : Situation) (t : List Value) → SituationIsNamed n s → Each (λ v. Among v (values_of (worlds_of s))) t → Each (ValueIsNamed n) t
+each-among : (n : ℕ) (s : Situation) (t : List Value) → SituationIsNamed n s → Each (λ v. Among v (values_of (worlds_of s))) t →
+    Each (ValueIsNamed n) t
 each-among n s [] h k = tt
 each-among n s (v ∷ t) h k = (in-situation n s v h k.0, each-among n s t h k.1)
 
-tuple-named : (n : ℕ) (s : Situation) (e : Assignment) (ss : List Var) (b : Bound) (t : List Value) → SituationIsNamed n s → Among t (tuples s e ss b) → Each (ValueIsNamed n) t
+tuple-named : (n : ℕ) (s : Situation) (e : Assignment) (ss : List Var) (b : Bound) (t : List Value) → SituationIsNamed n s →
+    Among t (tuples s e ss b) → Each (ValueIsNamed n) t
 tuple-named n s e ss b t h m = each-among n s t h ((Among-tuples s e ss b t).0 m).0.1
 
 -- ---- instances of effects
@@ -119,7 +130,8 @@ pub record InstanceIsNamed (n : ℕ) (c : EffectInstance) : Type 0 where
   pub facts : Each (KeyIsNamed n) (added c)
   pub places : Each (EntryIsNamed n) (given c)
 
-adds-named : (n p : ℕ) (o : Option (List Value)) → ((vs : List Value) → o ≡ Some vs → Each (ValueIsNamed n) vs) → InstanceIsNamed n (adds p o)
+adds-named : (n p : ℕ) (o : Option (List Value)) → ((vs : List Value) → o ≡ Some vs → Each (ValueIsNamed n) vs) →
+    InstanceIsNamed n (adds p o)
 adds-named n p (Some vs) h = record { facts = (h vs refl, tt); places = tt }
 adds-named n p None h = record { facts = tt; places = tt }
 
@@ -127,7 +139,8 @@ dels-named : (n p : ℕ) (o : Option (List Value)) → InstanceIsNamed n (dels p
 dels-named n p (Some vs) = record { facts = tt; places = tt }
 dels-named n p None = record { facts = tt; places = tt }
 
-sets-named : (n f : ℕ) (o : Option (List Value)) (x : Option Value) → ((vs : List Value) → o ≡ Some vs → Each (ValueIsNamed n) vs) → ((v : Value) → x ≡ Some v → ValueIsNamed n v) → InstanceIsNamed n (sets f o x)
+sets-named : (n f : ℕ) (o : Option (List Value)) (x : Option Value) → ((vs : List Value) → o ≡ Some vs → Each (ValueIsNamed n) vs) →
+    ((v : Value) → x ≡ Some v → ValueIsNamed n v) → InstanceIsNamed n (sets f o x)
 sets-named n f (Some vs) (Some v) h k = record { facts = tt; places = ((h vs refl, k v refl), tt) }
 sets-named n f (Some vs) None h k = record { facts = tt; places = tt }
 sets-named n f None x h k = record { facts = tt; places = tt }
@@ -140,23 +153,35 @@ module _ (n : ℕ) (s : Situation) (worlds : SituationIsNamed n s) where
   mutual
     unfolding effect_instances EffectIsNamed
 
-    pub effect-named : (e : Assignment) → AssignmentIsNamed n e → (x : EffectTree) → EffectIsNamed n x → Each (InstanceIsNamed n) (effect_instances s e x)
-    effect-named e k (add p ts) h = (adds-named n p (term_values s.world e ts) (λ vs q. terms-named n s.world worlds.world e k ts vs h q), tt)
+    pub effect-named : (e : Assignment) → AssignmentIsNamed n e → (x : EffectTree) → EffectIsNamed n x →
+        Each (InstanceIsNamed n) (effect_instances s e x)
+    effect-named e k (add p ts) h = (
+      adds-named n p (term_values s.world e ts) (λ vs q. terms-named n s.world worlds.world e k ts vs h q),
+      tt,
+    )
     effect-named e k (del p ts) h = (dels-named n p (term_values s.world e ts), tt)
-    effect-named e k (assign f ts t) h = (sets-named n f (term_values s.world e ts) (term_value s.world e t) (λ vs q. terms-named n s.world worlds.world e k ts vs h.0 q) (λ v q. term-named n s.world worlds.world e k t v h.1 q), tt)
+    effect-named e k (assign f ts t) h = (
+      sets-named n f (term_values s.world e ts) (term_value s.world e t)
+          (λ vs q. terms-named n s.world worlds.world e k ts vs h.0 q) (λ v q. term-named n s.world worlds.world e k t v h.1 q),
+      tt,
+    )
     effect-named e k (when f xs) h = elim (state_true s e f) as (λ b. Each (InstanceIsNamed n) (cond b (all_instances s e xs) [])) [
       | true ↦ effects-named e k xs h.1
       | false ↦ tt
     ]
-    effect-named e k (each ss b xs) h = each-flat (InstanceIsNamed n) (λ t. all_instances s (bind ss t e) xs) (tuples s e ss b) (λ t m. effects-named (bind ss t e) (bound-named n ss t e k (tuple-named n s e ss b t worlds m)) xs h.2)
+    effect-named e k (each ss b xs) h = each-flat (InstanceIsNamed n) (λ t. all_instances s (bind ss t e) xs) (tuples s e ss b)
+        (λ t m. effects-named (bind ss t e) (bound-named n ss t e k (tuple-named n s e ss b t worlds m)) xs h.2)
 
-    pub effects-named : (e : Assignment) → AssignmentIsNamed n e → (xs : EffectTrees) → EffectsAreNamed n xs → Each (InstanceIsNamed n) (all_instances s e xs)
+    pub effects-named : (e : Assignment) → AssignmentIsNamed n e → (xs : EffectTrees) → EffectsAreNamed n xs →
+        Each (InstanceIsNamed n) (all_instances s e xs)
     effects-named e k no_effect h = tt
-    effects-named e k (more_effects x xs) h = (Each-append (InstanceIsNamed n) (effect_instances s e x) (all_instances s e xs)).1 (effect-named e k x h.0, effects-named e k xs h.1)
+    effects-named e k (more_effects x xs) h = (Each-append (InstanceIsNamed n) (effect_instances s e x) (all_instances s e xs)).1
+        (effect-named e k x h.0, effects-named e k xs h.1)
 
 -- ---- the step
 
-changed-named : (n : ℕ) (w : World) (cs : List EffectInstance) → WorldIsNamed n w → Each (InstanceIsNamed n) cs → WorldIsNamed n (changed w cs)
+changed-named : (n : ℕ) (w : World) (cs : List EffectInstance) → WorldIsNamed n w → Each (InstanceIsNamed n) cs →
+    WorldIsNamed n (changed w cs)
 unfolding changed
 changed-named n w cs h k =
     let all = Each-Among (InstanceIsNamed n) cs in
@@ -164,16 +189,19 @@ changed-named n w cs h k =
     (each-flat (KeyIsNamed n) added cs (λ c m. (all.0 k c m).facts))
     (each-flat (EntryIsNamed n) given cs (λ c m. (all.0 k c m).places))
 
-module _ (n : ℕ) (p : PlainProblem) (goal : WorldIsNamed n p.goal) (avoid : WorldIsNamed n p.avoid) (w : World) (world : WorldIsNamed n w) where
+module _ (n : ℕ) (p : PlainProblem) (goal : WorldIsNamed n p.goal) (avoid : WorldIsNamed n p.avoid) (w : World)
+    (world : WorldIsNamed n w) where
   situation-named : SituationIsNamed n (situation_of p w)
   unfolding situation_of
   situation-named = record { world = world; goal = goal; avoid = avoid }
 
-  guarded : (b : Bool) (cs : List EffectInstance) (v : World) → cond b (Some (changed w cs)) None ≡ Some v → Each (InstanceIsNamed n) cs → WorldIsNamed n v
+  guarded : (b : Bool) (cs : List EffectInstance) (v : World) → cond b (Some (changed w cs)) None ≡ Some v → Each (InstanceIsNamed n) cs →
+      WorldIsNamed n v
   guarded true cs v q h = let same : changed w cs ≡ v = cc in subst (WorldIsNamed n) same (changed-named n w cs world h)
   guarded false cs v q h = absurd (let z : ⊥ = cc in z)
 
-  applied-named : (o : PlainOperator) (vs : List Value) (v : World) → EffectsAreNamed n o.effects → Each (ValueIsNamed n) vs → applied p w o vs ≡ Some v → WorldIsNamed n v
+  applied-named : (o : PlainOperator) (vs : List Value) (v : World) → EffectsAreNamed n o.effects → Each (ValueIsNamed n) vs →
+      applied p w o vs ≡ Some v → WorldIsNamed n v
   unfolding applied
   applied-named o vs v h k q =
       let e = bind o.params vs no_values in
@@ -185,7 +213,8 @@ module _ (n : ℕ) (p : PlainProblem) (goal : WorldIsNamed n p.goal) (avoid : Wo
   got-each P (y ∷ xs) zero x h q = let same : y ≡ x = cc in subst P same h.0
   got-each P (y ∷ xs) (suc i) x h q = got-each P xs i x h.1 q
 
-  pub step-named : (a : Action) (v : World) → Each (λ (o : PlainOperator). EffectsAreNamed n o.effects) p.operators → Each (ValueIsNamed n) a.args → step p w a ≡ Some v → WorldIsNamed n v
+  pub step-named : (a : Action) (v : World) → Each (λ (o : PlainOperator). EffectsAreNamed n o.effects) p.operators →
+      Each (ValueIsNamed n) a.args → step p w a ≡ Some v → WorldIsNamed n v
   unfolding step
   step-named a v h k q = by (slice_get p.operators a.op) refl q
     where

@@ -1,5 +1,6 @@
 -- Worlds that are made of named things are named.
-use Rattle.std.proofs.Common.{◌≡◌, ◌⊎◌, ℕ, List, [], ◌∷◌, map, length, Bool, true, false, not, cond, ◌||◌, ◌&&◌, true≢false, Some, refl, sym, ◌∙◌, subst, inl, inr}
+use Rattle.std.proofs.Common.{◌≡◌, ◌⊎◌, ℕ, List, [], ◌∷◌, map, length, Bool, true, false, not, cond, ◌||◌, ◌&&◌, true≢false, Some, refl}
+use Rattle.std.proofs.Common.{sym, ◌∙◌, subst, inl, inr}
 use Rattle.std.specs.FinSet as set
 use Rattle.std.specs.FinMap as dict
 use Rattle.std.specs.Ordering.{eq_by_cmp}
@@ -52,11 +53,13 @@ listed ks q h = (key-among q ks).1 (sym (set.contains-from_list key_total ks q) 
 placed : (es : List (Key × Value)) (q : Key) (v : Value) → dict.get (dict.from_entries {R = key_cmp} es) q ≡ Some v → Among (q, v) es
 placed es q v h = entry_of es q v (sym (dict.get-from_entries key_total es q) ∙ h)
 
-pub world_of-named : (n : ℕ) (facts : List Fact) (places : List PlaceValue) → Each (FactIsNamed n) facts → Each (PlaceIsNamed n) places → WorldIsNamed n (world_of facts places)
+pub world_of-named : (n : ℕ) (facts : List Fact) (places : List PlaceValue) → Each (FactIsNamed n) facts → Each (PlaceIsNamed n) places →
+    WorldIsNamed n (world_of facts places)
 unfolding world_of
 world_of-named n facts places f p = record {
   facts = λ k h. (Each-Among (KeyIsNamed n) (map fact_key facts)).0 (keys-named n facts f) k (listed (map fact_key facts) k h);
-  places = λ k v h. (Each-Among (EntryIsNamed n) (map place_entry places)).0 (entries-named n places p) (k, v) (placed (map place_entry places) k v h);
+  places = λ k v h. (Each-Among (EntryIsNamed n) (map place_entry places)).0 (entries-named n places p) (k, v)
+      (placed (map place_entry places) k v h);
 }
 
 -- ---- a changed world
@@ -69,28 +72,38 @@ second : (a b : Bool) → (a && b) ≡ true → b ≡ true
 second true b h = h
 second false b h = absurd (true≢false (sym h))
 
-facts-with : (n : ℕ) (s : set.FinSet key_cmp) (ks : List Key) → ((q : Key) → set.contains s q ≡ true → KeyIsNamed n q) → Each (KeyIsNamed n) ks → (q : Key) → set.contains (with_all s ks) q ≡ true → KeyIsNamed n q
+facts-with : (n : ℕ) (s : set.FinSet key_cmp) (ks : List Key) → ((q : Key) → set.contains s q ≡ true → KeyIsNamed n q) →
+    Each (KeyIsNamed n) ks → (q : Key) → set.contains (with_all s ks) q ≡ true → KeyIsNamed n q
 facts-with n s [] h k q m = h q m
-facts-with n s (x ∷ ks) h k q m = elim (either (eq_by_cmp key_cmp q x) (set.contains (with_all s ks) q) (sym (set.contains-insert key_total (with_all s ks) x q) ∙ m)) [
-  | inl e ↦ subst (KeyIsNamed n) (key-is q x e) k.0
-  | inr o ↦ facts-with n s ks h k.1 q o
-]
+facts-with n s (x ∷ ks) h k q m = elim (either (eq_by_cmp key_cmp q x) (set.contains (with_all s ks) q)
+    (sym (set.contains-insert key_total (with_all s ks) x q) ∙ m)) [
+      | inl e ↦ subst (KeyIsNamed n) (key-is q x e) k.0
+      | inr o ↦ facts-with n s ks h k.1 q o
+    ]
 
-facts-without : (n : ℕ) (s : set.FinSet key_cmp) (ks : List Key) → ((q : Key) → set.contains s q ≡ true → KeyIsNamed n q) → (q : Key) → set.contains (without_all s ks) q ≡ true → KeyIsNamed n q
+facts-without : (n : ℕ) (s : set.FinSet key_cmp) (ks : List Key) → ((q : Key) → set.contains s q ≡ true → KeyIsNamed n q) → (q : Key) →
+    set.contains (without_all s ks) q ≡ true → KeyIsNamed n q
 facts-without n s [] h q m = h q m
-facts-without n s (x ∷ ks) h q m = facts-without n s ks h q (second (not (eq_by_cmp key_cmp q x)) (set.contains (without_all s ks) q) (sym (set.contains-remove key_total (without_all s ks) x q) ∙ m))
+facts-without n s (x ∷ ks) h q m = facts-without n s ks h q (second (not (eq_by_cmp key_cmp q x)) (set.contains (without_all s ks) q)
+    (sym (set.contains-remove key_total (without_all s ks) x q) ∙ m))
 
-places-with : (n : ℕ) (d : dict.FinMap key_cmp Value) (es : List (Key × Value)) → ((q : Key) (v : Value) → dict.get d q ≡ Some v → EntryIsNamed n (q, v)) → Each (EntryIsNamed n) es → (q : Key) (v : Value) → dict.get (overwritten d es) q ≡ Some v → EntryIsNamed n (q, v)
+places-with : (n : ℕ) (d : dict.FinMap key_cmp Value) (es : List (Key × Value)) →
+    ((q : Key) (v : Value) → dict.get d q ≡ Some v → EntryIsNamed n (q, v)) → Each (EntryIsNamed n) es → (q : Key) (v : Value) →
+    dict.get (overwritten d es) q ≡ Some v → EntryIsNamed n (q, v)
 places-with n d [] h k q v g = h q v g
 places-with n d (x ∷ es) h k q v g =
-    (elim (eq_by_cmp key_cmp q x.0) as (λ b. eq_by_cmp key_cmp q x.0 ≡ b → cond b (Some x.1) (dict.get (overwritten d es) q) ≡ Some v → EntryIsNamed n (q, v)) [
+    (elim (eq_by_cmp key_cmp q x.0) as (λ b. eq_by_cmp key_cmp q x.0 ≡ b → cond b (Some x.1) (dict.get (overwritten d es) q) ≡ Some v →
+    EntryIsNamed n (q, v)) [
       | true ↦ λ e r. let same : x.1 ≡ v = cc in (subst (KeyIsNamed n) (key-is q x.0 e) k.0.0, subst (ValueIsNamed n) same k.0.1)
       | false ↦ λ e r. places-with n d es h k.1 q v r
     ]) refl (sym (dict.get-insert key_total (overwritten d es) x.0 x.1 q) ∙ g)
 
-pub world-changed : (n : ℕ) (w v : World) (dels adds : List Key) (sets : List (Key × Value)) → v.facts ≡ with_all (without_all w.facts dels) adds → v.places ≡ overwritten w.places sets → WorldIsNamed n w → Each (KeyIsNamed n) adds → Each (EntryIsNamed n) sets → WorldIsNamed n v
+pub world-changed : (n : ℕ) (w v : World) (dels adds : List Key) (sets : List (Key × Value)) → v.facts ≡
+    with_all (without_all w.facts dels) adds → v.places ≡ overwritten w.places sets → WorldIsNamed n w → Each (KeyIsNamed n) adds →
+    Each (EntryIsNamed n) sets → WorldIsNamed n v
 world-changed n w v dels adds sets f p h a s = record {
-  facts = λ k m. facts-with n (without_all w.facts dels) adds (facts-without n w.facts dels h.facts) a k (subst (λ (x : set.FinSet key_cmp). set.contains x k ≡ true) f m);
+  facts = λ k m. facts-with n (without_all w.facts dels) adds (facts-without n w.facts dels h.facts) a k
+      (subst (λ (x : set.FinSet key_cmp). set.contains x k ≡ true) f m);
   places = λ k x m. places-with n w.places sets h.places s k x (subst (λ (d : dict.FinMap key_cmp Value). dict.get d k ≡ Some x) p m);
 }
 
@@ -98,12 +111,17 @@ world-changed n w v dels adds sets f p h a s = record {
 
 pub first-named : (p : Problem) → WorldIsNamed (length p.names) (plain_problem p).first
 unfolding plain_problem
-first-named p = world_of-named (length p.names) p.init_facts p.init_values (facts-kept (signature_of p.domain) (length p.names) p.init_facts p.init_facts_keep) (places-kept (signature_of p.domain) (length p.names) p.init_values p.init_values_keep)
+first-named p = world_of-named (length p.names) p.init_facts p.init_values
+    (facts-kept (signature_of p.domain) (length p.names) p.init_facts p.init_facts_keep)
+    (places-kept (signature_of p.domain) (length p.names) p.init_values p.init_values_keep)
 
 pub goal-named : (p : Problem) → WorldIsNamed (length p.names) (plain_problem p).goal
 unfolding plain_problem
-goal-named p = world_of-named (length p.names) p.goal_facts p.goal_values (facts-kept (signature_of p.domain) (length p.names) p.goal_facts p.goal_facts_keep) (places-kept (signature_of p.domain) (length p.names) p.goal_values p.goal_values_keep)
+goal-named p = world_of-named (length p.names) p.goal_facts p.goal_values
+    (facts-kept (signature_of p.domain) (length p.names) p.goal_facts p.goal_facts_keep)
+    (places-kept (signature_of p.domain) (length p.names) p.goal_values p.goal_values_keep)
 
 pub avoid-named : (p : Problem) → WorldIsNamed (length p.names) (plain_problem p).avoid
 unfolding plain_problem
-avoid-named p = world_of-named (length p.names) p.goal_nots [] (facts-kept (signature_of p.domain) (length p.names) p.goal_nots p.goal_nots_keep) tt
+avoid-named p = world_of-named (length p.names) p.goal_nots [] (facts-kept (signature_of p.domain)
+    (length p.names) p.goal_nots p.goal_nots_keep) tt

@@ -20,11 +20,14 @@ action_total : IsTotalOrder action_cmp
 action_total = then_total (on_total (λ (a : Action). a.op) nat_cmp_total) (on_total (λ (a : Action). a.args) (lists_total value_total))
 
 action_ties : set.IsAntisymmetric action_cmp
-action_ties x y e = (elim (nat_cmp x.op y.op) as (λ r. nat_cmp x.op y.op ≡ r → ordering_then r (slice_cmp value_cmp x.args y.args) ≡ Equal → x ≡ y) [
-  | Less ↦ λ p q. cc
-  | Equal ↦ λ p q. let a = set.nat_cmp-IsAntisymmetric x.op y.op p in let b = set.slice_cmp-IsAntisymmetric value_ties x.args y.args q in λ i. record { op = a i; args = b i }
-  | Greater ↦ λ p q. cc
-]) refl e
+action_ties x y e = (elim (nat_cmp x.op y.op) as (λ r. nat_cmp x.op y.op ≡ r → ordering_then r (slice_cmp value_cmp x.args y.args) ≡ Equal →
+    x ≡ y) [
+      | Less ↦ λ p q. cc
+      | Equal ↦ λ p q. let a = set.nat_cmp-IsAntisymmetric x.op y.op p in let b =
+          set.slice_cmp-IsAntisymmetric value_ties x.args y.args q in
+          λ i. record { op = a i; args = b i }
+      | Greater ↦ λ p q. cc
+    ]) refl e
 
 pub actions-total : OrdersTotally action_cmp
 actions-total = record { total = action_total; ties = action_ties }
@@ -34,4 +37,5 @@ plans-total = record { total = lists_total action_total; ties = set.slice_cmp-Is
 
 pub prefix-first : (plan rest : List Action) (a : Action) → plan_cmp plan (plan ++ a ∷ rest) ≡ Less
 prefix-first [] rest a = refl
-prefix-first (b ∷ plan) rest a = ap (λ r. ordering_then r (plan_cmp plan (plan ++ a ∷ rest))) (tied_itself action_total b) ∙ prefix-first plan rest a
+prefix-first (b ∷ plan) rest a = ap (λ r. ordering_then r (plan_cmp plan (plan ++ a ∷ rest))) (tied_itself action_total b) ∙
+    prefix-first plan rest a

@@ -37,9 +37,11 @@ goes : (p : PlainProblem) (f : FormulaTree) (o : Option World) (plan : List Acti
 unfolding states_from residual
 goes p f None plan = refl
 goes p f (Some w) [] = refl
-goes p f (Some w) (a ∷ plan) = by_rest (states_from p (step p w a) plan) (not_empty p (step p w a) plan) ∙ goes p (progressed (situation_of p w) no_values f) (step p w a) plan
+goes p f (Some w) (a ∷ plan) = by_rest (states_from p (step p w a) plan) (not_empty p (step p w a) plan) ∙
+    goes p (progressed (situation_of p w) no_values f) (step p w a) plan
   where
-    by_rest : (o : Option (List World)) → (o ≡ Some [] → ⊥) → pair_from p f (then_states w o) ≡ pair_from p (progressed (situation_of p w) no_values f) o
+    by_rest : (o : Option (List World)) → (o ≡ Some [] → ⊥) → pair_from p f (then_states w o) ≡
+        pair_from p (progressed (situation_of p w) no_values f) o
     by_rest None n = refl
     by_rest (Some []) n = absurd (n refl)
     by_rest (Some (v ∷ ws)) n = refl
@@ -48,11 +50,14 @@ abbrev go_on : PlainProblem → Pair → List Action → Option Pair
 go_on p x [] = Some x
 go_on p x (a ∷ rest) = go p x.formula (step p x.world a) rest
 
-goes-on : (p : PlainProblem) (f : FormulaTree) (o : Option World) (path rest : List Action) (x : Pair) → go p f o path ≡ Some x → go p f o (path ++ rest) ≡ go_on p x rest
+goes-on : (p : PlainProblem) (f : FormulaTree) (o : Option World) (path rest : List Action) (x : Pair) → go p f o path ≡ Some x →
+    go p f o (path ++ rest) ≡ go_on p x rest
 goes-on p f None path rest x e = cc
-goes-on p f (Some w) [] rest x e = at_once rest ∙ ap (λ y. go_on p y rest) (let q : record { world = w; formula = progressed (situation_of p w) no_values f } ≡ x = cc in q)
+goes-on p f (Some w) [] rest x e = at_once rest ∙ ap (λ y. go_on p y rest)
+    (let q : record { world = w; formula = progressed (situation_of p w) no_values f } ≡ x = cc in q)
   where
-    at_once : (us : List Action) → go p f (Some w) us ≡ go_on p (record { world = w; formula = progressed (situation_of p w) no_values f }) us
+    at_once : (us : List Action) → go p f (Some w) us ≡ go_on p (record { world = w; formula = progressed (situation_of p w) no_values f })
+        us
     at_once [] = refl
     at_once (u ∷ us) = refl
 goes-on p f (Some w) (a ∷ path) rest x e = goes-on p (progressed (situation_of p w) no_values f) (step p w a) path rest x e
@@ -66,7 +71,8 @@ pair-goes p path = same_form (states p path) ∙ goes p p.control (Some p.first)
     same_form (Some (w ∷ ws)) = refl
 
 -- of two paths with one pair, the same further actions lead to one pair
-pub future-by-pair : (p : PlainProblem) (path other rest : List Action) (x : Pair) → pair_of p path ≡ Some x → pair_of p other ≡ Some x → pair_of p (path ++ rest) ≡ pair_of p (other ++ rest)
+pub future-by-pair : (p : PlainProblem) (path other rest : List Action) (x : Pair) → pair_of p path ≡ Some x → pair_of p other ≡ Some x →
+    pair_of p (path ++ rest) ≡ pair_of p (other ++ rest)
 future-by-pair p path other rest x d e =
     pair-goes p (path ++ rest)
     ∙ (goes-on p p.control (Some p.first) path rest x (sym (pair-goes p path) ∙ d)
@@ -80,7 +86,8 @@ stays-false p None plan x e = let q : ⊥ = cc in absurd q
 stays-false p (Some w) [] x e = let q : record { world = w; formula = falsum } ≡ x = cc in ap (λ (y : Pair). y.formula) (sym q)
 stays-false p (Some w) (a ∷ plan) x e = stays-false p (step p w a) plan x e
 
-false-goes-on : (p : PlainProblem) (x : Pair) (rest : List Action) (y : Pair) → x.formula ≡ falsum → go_on p x rest ≡ Some y → y.formula ≡ falsum
+false-goes-on : (p : PlainProblem) (x : Pair) (rest : List Action) (y : Pair) → x.formula ≡ falsum → go_on p x rest ≡ Some y → y.formula ≡
+    falsum
 false-goes-on p x [] y e h = let q : x ≡ y = cc in ap (λ (z : Pair). z.formula) (sym q) ∙ e
 false-goes-on p x (a ∷ rest) y e h = stays-false p (step p x.world a) rest y (ap (λ f. go p f (step p x.world a) rest) (sym e) ∙ h)
 
@@ -89,12 +96,15 @@ append_nil [] = refl
 append_nil (u ∷ us) = ap (λ (vs : List Action). u ∷ vs) (append_nil us)
 
 -- a path is open exactly where it executes and its own residual is not FALSE
-pub open-by-residual : (p : PlainProblem) (path : List Action) → IsOpen p path ↔ ((x : Pair) × (pair_of p path ≡ Some x) × (x.formula ≢ falsum))
+pub open-by-residual : (p : PlainProblem) (path : List Action) → IsOpen p path ↔
+    ((x : Pair) × (pair_of p path ≡ Some x) × (x.formula ≢ falsum))
 open-by-residual p path = (
   λ o. of_pair (pair_of p path) refl o,
   λ h. record {
     executes = ap is_some h.1;
-    unpruned = λ front rest x e q f. h.2 (false-goes-on p x rest h.0 f (sym (goes-on p p.control (Some p.first) front rest x (sym (pair-goes p front) ∙ q)) ∙ (sym (pair-goes p (front ++ rest)) ∙ (ap (pair_of p) e ∙ h.1))));
+    unpruned = λ front rest x e q f. h.2 (false-goes-on p x rest h.0 f
+        (sym (goes-on p p.control (Some p.first) front rest x (sym (pair-goes p front) ∙ q)) ∙
+        (sym (pair-goes p (front ++ rest)) ∙ (ap (pair_of p) e ∙ h.1))));
   },
 )
   where

@@ -1,5 +1,6 @@
 -- The progression lemma, over every infinite sequence of worlds.
-use Rattle.std.proofs.Common.{◌≡◌, ℕ, zero, suc, ◌≤◌, ◌⊎◌, ◌↔◌, List, [], ◌∷◌, map, Bool, true, false, true≢false, refl, sym, subst, inl, inr, arith}
+use Rattle.std.proofs.Common.{◌≡◌, ℕ, zero, suc, ◌≤◌, ◌⊎◌, ◌↔◌, List, [], ◌∷◌, map, Bool, true, false, true≢false, refl, sym, subst, inl}
+use Rattle.std.proofs.Common.{inr, arith}
 use native.Mathlib.Decide.{dec_lt}
 use Rattle.tl_syntax.specs.Assignment.{Assignment, no_values, bind}
 use Rattle.tl_terms.specs.Bounds.{tuples}
@@ -8,7 +9,9 @@ use Rattle.tl_terms.specs.Progression.{constant, progressed, progressed_all}
 use Rattle.tl_terms.specs.Run.{Situations, Holds, HoldAll, HoldsOne}
 use Rattle.tl_terms.specs.Simplification.{simplified_and, simplified_or}
 use Rattle.tl_syntax.specs.Substitution.{substituted}
-use Rattle.tl_syntax.specs.Trees.{FormulaTree, verum, falsum, atom, defined, compare, goal_fact, goal_place, goal_not, negation, conjunction, disjunction, for_all, for_some, next, always, eventually, until, within, during, FormulaTrees, no_formula, more_formulas}
+use Rattle.tl_syntax.specs.Trees.{FormulaTree, verum, falsum, atom, defined, compare, goal_fact, goal_place, goal_not, negation}
+use Rattle.tl_syntax.specs.Trees.{conjunction, disjunction, for_all, for_some, next, always, eventually, until, within, during}
+use Rattle.tl_syntax.specs.Trees.{FormulaTrees, no_formula, more_formulas}
 use Rattle.tl_terms.specs.Truth.{state_true}
 use Rattle.tl_terms.proofs.FailTogether.{FailTogether, fail-both, fail-and, fail-or, fail-each, fail-one}
 use Rattle.tl_terms.proofs.SubstitutedHolds.{Holds-substituted-no_values}
@@ -45,7 +48,13 @@ module _ (r : Situations) (e : Assignment) (i : ℕ) where
     ],
     elim [
       | inl k ↦ (i, omega arith, k, λ m p q. absurd (omega arith))
-      | inr w ↦ (w.1.0, omega arith, w.1.2, λ m p q. elim (split i m p) [ inl same ↦ subst (Holds r e f) same w.0 | inr later ↦ w.1.3 m later q ])
+      | inr w ↦ (
+        w.1.0,
+        omega arith,
+        w.1.2,
+        λ m p q. elim (split i m p)
+            [ inl same ↦ subst (Holds r e f) same w.0 | inr later ↦ w.1.3 m later q ],
+      )
     ],
   )
 
@@ -123,11 +132,13 @@ module _ (r : Situations) (i : ℕ) where
     progression e (for_all ss b f) =
         let ts : List (List Value) = tuples (r i) e ss b in
         iff-trans (fail-each (λ t. progression (bind ss t e) f) ts)
-        (fail-both (iff-trans (iff-sym (Each-over After (λ t. progressed (r i) (bind ss t e) f) ts)) (iff-sym (simplified_and-holds r no_values (suc i) (map (λ t. progressed (r i) (bind ss t e) f) ts)))))
+        (fail-both (iff-trans (iff-sym (Each-over After (λ t. progressed (r i) (bind ss t e) f) ts))
+        (iff-sym (simplified_and-holds r no_values (suc i) (map (λ t. progressed (r i) (bind ss t e) f) ts)))))
     progression e (for_some ss b f) =
         let ts : List (List Value) = tuples (r i) e ss b in
         iff-trans (fail-one (λ t. progression (bind ss t e) f) ts)
-        (fail-both (iff-trans (iff-sym (One-over After (λ t. progressed (r i) (bind ss t e) f) ts)) (iff-sym (simplified_or-holds r no_values (suc i) (map (λ t. progressed (r i) (bind ss t e) f) ts)))))
+        (fail-both (iff-trans (iff-sym (One-over After (λ t. progressed (r i) (bind ss t e) f) ts))
+        (iff-sym (simplified_or-holds r no_values (suc i) (map (λ t. progressed (r i) (bind ss t e) f) ts)))))
     progression e (next f) = after e f
     progression e (always f) =
         and-row (progressed (r i) e f) (substituted e (always f)) (always-here r e i f) (progression e f) (after e (always f))

@@ -1,5 +1,6 @@
 -- Where no arithmetic term stands, nothing is looked at.
-use Rattle.std.proofs.Common.{◌≡◌, ℕ, zero, suc, List, [], ◌∷◌, ◌++◌, map, flat_map, length, take, slice_get, Bool, true, false, cond, not, ◌&&◌, ◌==◌, Option, Some, None, refl, sym, ap₂, subst}
+use Rattle.std.proofs.Common.{◌≡◌, ℕ, zero, suc, List, [], ◌∷◌, ◌++◌, map, flat_map, length, take, slice_get, Bool, true, false, cond, not}
+use Rattle.std.proofs.Common.{◌&&◌, ◌==◌, Option, Some, None, refl, sym, ap₂, subst}
 use Rattle.std.specs.Prelude.{is_some}
 use Rattle.std.specs.List.{list_all}
 use Rattle.tl_syntax.specs.declared.action.Action.{Action}
@@ -8,15 +9,22 @@ use Rattle.tl_syntax.specs.Assignment.{Assignment, no_values, bind}
 use Rattle.tl_syntax.specs.Effects.{EffectTree, EffectTrees, add, del, assign, when, each, no_effect, more_effects}
 use Rattle.tl_syntax.specs.Lists.{Each}
 use Rattle.tl_syntax.specs.Substitution.{value_or_term, substituted_term, substituted_terms, without, substituted, substituted_all}
-use Rattle.tl_syntax.specs.Trees.{TermTree, TermTrees, variable, value, place, arith, no_term, more_terms, FormulaTree, FormulaTrees, verum, falsum, atom, defined, compare, goal_fact, goal_place, goal_not, negation, conjunction, disjunction, for_all, for_some, next, always, eventually, until, within, during, no_formula, more_formulas}
+use Rattle.tl_syntax.specs.Trees.{TermTree, TermTrees, variable, value, place, arith, no_term, more_terms, FormulaTree, FormulaTrees, verum}
+use Rattle.tl_syntax.specs.Trees.{falsum, atom, defined, compare, goal_fact, goal_place, goal_not, negation, conjunction, disjunction}
+use Rattle.tl_syntax.specs.Trees.{for_all, for_some, next, always, eventually, until, within, during, no_formula, more_formulas}
 use Rattle.tl_syntax.proofs.ListLaws.{Each-append}
 use Rattle.tl_terms.specs.Acceptance.{last_of, all_but_last}
-use Rattle.tl_terms.specs.Arithmetic.{TermHasNoArithmetic, TermsHaveNoArithmetic, HasNoArithmetic, HaveNoArithmetic, EffectHasNoArithmetic, EffectsHaveNoArithmetic, ProblemHasNoArithmetic}
+use Rattle.tl_terms.specs.Arithmetic.{TermHasNoArithmetic, TermsHaveNoArithmetic, HasNoArithmetic, HaveNoArithmetic, EffectHasNoArithmetic}
+use Rattle.tl_terms.specs.Arithmetic.{EffectsHaveNoArithmetic, ProblemHasNoArithmetic}
 use Rattle.tl_terms.specs.Bounds.{bound_true, tuples}
 use Rattle.tl_terms.specs.Calm.{NonePastRange}
 use Rattle.tl_terms.specs.Definitions.{Tests, true_at_level, with_tests_of, situation_under, situation_of}
 use Rattle.tl_terms.specs.LawsCalm.{LooksAtNothing}
-use Rattle.tl_terms.specs.Looked.{followed_if, looked_in_term, looked_in_terms, LookedTable, looked_in_body, leaves_open, looked_in_turn, looked_in_state, looked_in_and, looked_in_or, Looks, looked_table, looked_at_level, looks_over, looks_of, looked_in_basics, looked_in_parts, looked_by_progressing, looked_by_idling, looked_after, looked_along, looked_in_each, looked_in_effect, looked_in_effects, looked_by_operator, looked_by_operator_if, looked_by_action}
+use Rattle.tl_terms.specs.Looked.{followed_if, looked_in_term, looked_in_terms, LookedTable, looked_in_body, leaves_open, looked_in_turn}
+use Rattle.tl_terms.specs.Looked.{looked_in_state, looked_in_and, looked_in_or, Looks, looked_table, looked_at_level, looks_over, looks_of}
+use Rattle.tl_terms.specs.Looked.{looked_in_basics, looked_in_parts, looked_by_progressing, looked_by_idling, looked_after, looked_along}
+use Rattle.tl_terms.specs.Looked.{looked_in_each, looked_in_effect, looked_in_effects, looked_by_operator, looked_by_operator_if}
+use Rattle.tl_terms.specs.Looked.{looked_by_action}
 use Rattle.tl_terms.specs.Operations.{Operation}
 use Rattle.tl_terms.specs.Pairs.{residual}
 use Rattle.tl_terms.specs.Problem.{PlainDefinition, PlainOperator, PlainProblem}
@@ -351,7 +359,8 @@ module _ (p : PlainProblem) (h : ProblemHasNoArithmetic p) where
       let s = situation_of p w in
       let e = bind o.params vs no_values in
       if-quiet ((length vs == length o.params) && list_all (bound_true s e) o.bounds)
-      (followed-quiet (state_true s e o.pre) (state-quiet (looks_of p w) (quiet-table w) s e o.pre k.0) (effects-quiet (looks_of p w) (quiet-table w) s e o.effects k.1))
+      (followed-quiet (state_true s e o.pre) (state-quiet (looks_of p w) (quiet-table w) s e o.pre k.0)
+      (effects-quiet (looks_of p w) (quiet-table w) s e o.effects k.1))
 
   operators-quiet : (w : World) (vs : List Value) (os : List PlainOperator)
       → Each (λ o. HasNoArithmetic o.pre × EffectsHaveNoArithmetic o.effects) os → (n : ℕ)
@@ -373,9 +382,11 @@ looks-at-nothing p h = record {
   searching = λ n path from after reached ran. record {
     progressing =
         none-past
-        (progressing-quiet p h (last_of from after) (residual p (all_but_last from after) p.control) (residual-quiet p (all_but_last from after) p.control h.control));
+        (progressing-quiet p h (last_of from after) (residual p (all_but_last from after) p.control)
+        (residual-quiet p (all_but_last from after) p.control h.control));
     idling =
-        λ o. none-past (idling-quiet p h (last_of from after) (residual p (from ∷ after) p.control) (residual-quiet p (from ∷ after) p.control h.control));
+        λ o. none-past (idling-quiet p h (last_of from after) (residual p (from ∷ after) p.control)
+        (residual-quiet p (from ∷ after) p.control h.control));
     acting = λ o l a. none-past (action-quiet p h (last_of from after) a);
   };
 }

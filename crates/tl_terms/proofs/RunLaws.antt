@@ -1,5 +1,6 @@
 -- Runs with a stem and a loop, and formulas without temporal words.
-use Rattle.std.proofs.Common.{◌≡◌, ℕ, suc, ◌+◌, ◌-◌, ◌%◌, ◌≤◌, ◌↔◌, List, [], ◌∷◌, map, flat_map, filter, length, slice_index_or, Bool, true, false, cond, not, ◌&&◌, ◌||◌, true≢false, refl, sym, ap, ap₂, ◌∙◌, arith}
+use Rattle.std.proofs.Common.{◌≡◌, ℕ, suc, ◌+◌, ◌-◌, ◌%◌, ◌≤◌, ◌↔◌, List, [], ◌∷◌, map, flat_map, filter, length, slice_index_or, Bool}
+use Rattle.std.proofs.Common.{true, false, cond, not, ◌&&◌, ◌||◌, true≢false, refl, sym, ap, ap₂, ◌∙◌, arith}
 use Rattle.std.specs.List.{list_any, list_all}
 use borrow.Author.Tests.{le-ltb}
 use native.Mathlib.Nat.{add-mod_right}
@@ -9,35 +10,44 @@ use Rattle.tl_terms.specs.Bounds.{tuples}
 use Rattle.tl_terms.specs.Definitions.{situation_of}
 use Rattle.tl_terms.specs.Problem.{PlainProblem}
 use Rattle.tl_terms.specs.Progression.{constant, progressed, progressed_all}
-use Rattle.tl_terms.specs.Run.{Situations, Holds, HoldAll, HoldsOne, Run, Worlds, state_at, situations_along, situations_of, Satisfies, SatisfiesAlong}
-use Rattle.tl_terms.specs.Simplification.{and_parts, or_parts, is_verum, is_falsum, without_repeats, conjunction_of, disjunction_of, simplified_and, simplified_or, simplified_not}
+use Rattle.tl_terms.specs.Run.{Situations, Holds, HoldAll, HoldsOne, Run, Worlds, state_at, situations_along, situations_of, Satisfies}
+use Rattle.tl_terms.specs.Run.{SatisfiesAlong}
+use Rattle.tl_terms.specs.Simplification.{and_parts, or_parts, is_verum, is_falsum, without_repeats, conjunction_of, disjunction_of}
+use Rattle.tl_terms.specs.Simplification.{simplified_and, simplified_or, simplified_not}
 use Rattle.tl_terms.specs.Situation.{Situation}
-use Rattle.tl_syntax.specs.Trees.{FormulaTree, verum, falsum, atom, defined, compare, goal_fact, goal_place, goal_not, negation, conjunction, disjunction, for_all, for_some, next, always, eventually, until, within, during, FormulaTrees, no_formula, more_formulas, formulas_of_list}
+use Rattle.tl_syntax.specs.Trees.{FormulaTree, verum, falsum, atom, defined, compare, goal_fact, goal_place, goal_not, negation}
+use Rattle.tl_syntax.specs.Trees.{conjunction, disjunction, for_all, for_some, next, always, eventually, until, within, during}
+use Rattle.tl_syntax.specs.Trees.{FormulaTrees, no_formula, more_formulas, formulas_of_list}
 use Rattle.tl_syntax.specs.StateFormulas.{IsState, AreState}
 use Rattle.tl_terms.specs.Truth.{state_true, all_true, one_true}
 use Rattle.tl_terms.proofs.FailTogether.{FailTogether, hold-both}
 use Rattle.tl_terms.proofs.Lasso.{decided}
 use Rattle.tl_terms.proofs.Progression.{progression}
 use Rattle.tl_syntax.proofs.ListLaws.{iff-trans, and-iff, or-iff, not-iff, all-iff, any-iff}
-use Rattle.tl_terms.proofs.Simplification.{formulas_of_list-All, formulas_of_list-One, simplified_and-holds, simplified_or-holds, simplified_not-fails}
+use Rattle.tl_terms.proofs.Simplification.{formulas_of_list-All, formulas_of_list-One, simplified_and-holds, simplified_or-holds}
+use Rattle.tl_terms.proofs.Simplification.{simplified_not-fails}
 use Rattle.tl_syntax.specs.declared.value.Value.{Value}
 
-past : (r : Run) (j : ℕ) → length r.stem ≤ j → state_at r j ≡ slice_index_or (r.first ∷ r.rest) ((j - length r.stem) % suc (length r.rest)) r.first
+past : (r : Run) (j : ℕ) → length r.stem ≤ j → state_at r j ≡ slice_index_or (r.first ∷ r.rest)
+    ((j - length r.stem) % suc (length r.rest)) r.first
 unfolding state_at
-past r j h = ap (λ b. cond b (slice_index_or r.stem j r.first) (slice_index_or (r.first ∷ r.rest) ((j - length r.stem) % suc (length r.rest)) r.first)) (le-ltb j (length r.stem) h)
+past r j h = ap (λ b. cond b (slice_index_or r.stem j r.first) (slice_index_or (r.first ∷ r.rest)
+    ((j - length r.stem) % suc (length r.rest)) r.first)) (le-ltb j (length r.stem) h)
 
 -- past the stem the states come again after the loop's length
 pub state-again : (r : Run) (j : ℕ) → length r.stem ≤ j → state_at r (j + suc (length r.rest)) ≡ state_at r j
 state-again r j h =
     let n : ℕ = suc (length r.rest) in
     let e : j + n - length r.stem ≡ j - length r.stem + n = omega arith in
-    past r (j + n) (omega arith) ∙ (ap (λ k. slice_index_or (r.first ∷ r.rest) k r.first) (ap (λ k. k % n) e ∙ add-mod_right (j - length r.stem) n) ∙ sym (past r j h))
+    past r (j + n) (omega arith) ∙ (ap (λ k. slice_index_or (r.first ∷ r.rest) k r.first)
+    (ap (λ k. k % n) e ∙ add-mod_right (j - length r.stem) n) ∙ sym (past r j h))
 
 -- satisfaction is decided on each run of a stem and a loop
 pub Satisfies-decided : (p : PlainProblem) (r : Run) (i : ℕ) (f : FormulaTree) → Dec (Satisfies p r i f)
 unfolding SatisfiesAlong
 Satisfies-decided p r i f =
-    decided (situations_of p r) (length r.stem) (suc (length r.rest)) (omega arith) (λ j h. ap (situation_of p) (state-again r j h)) no_values f i
+    decided (situations_of p r) (length r.stem) (suc (length r.rest)) (omega arith)
+    (λ j h. ap (situation_of p) (state-again r j h)) no_values f i
 
 -- THE PROGRESSION LEMMA, over every infinite sequence of worlds, and over a run of a stem and a loop
 pub progression-along : (p : PlainProblem) (s : Worlds) (i : ℕ) (f : FormulaTree)
@@ -69,8 +79,10 @@ mutual
   Holds-state r e (negation f) i h = not-iff (Holds-state r e f i h)
   Holds-state r e (conjunction fs) i h = HoldAll-state r e fs i h
   Holds-state r e (disjunction fs) i h = HoldsOne-state r e fs i h
-  Holds-state r e (for_all ss b f) i h = all-iff (λ t. Holds r (bind ss t e) f i) (λ t. state_true (r i) (bind ss t e) f) (λ t. Holds-state r (bind ss t e) f i h) (tuples (r i) e ss b)
-  Holds-state r e (for_some ss b f) i h = any-iff (λ t. Holds r (bind ss t e) f i) (λ t. state_true (r i) (bind ss t e) f) (λ t. Holds-state r (bind ss t e) f i h) (tuples (r i) e ss b)
+  Holds-state r e (for_all ss b f) i h = all-iff (λ t. Holds r (bind ss t e) f i) (λ t. state_true (r i) (bind ss t e) f)
+      (λ t. Holds-state r (bind ss t e) f i h) (tuples (r i) e ss b)
+  Holds-state r e (for_some ss b f) i h = any-iff (λ t. Holds r (bind ss t e) f i) (λ t. state_true (r i) (bind ss t e) f)
+      (λ t. Holds-state r (bind ss t e) f i h) (tuples (r i) e ss b)
   Holds-state r e (next f) i h = absurd h
   Holds-state r e (always f) i h = absurd h
   Holds-state r e (eventually f) i h = absurd h
@@ -78,11 +90,13 @@ mutual
   Holds-state r e (within n f) i h = absurd h
   Holds-state r e (during n f) i h = absurd h
 
-  HoldAll-state : (r : Situations) (e : Assignment) (fs : FormulaTrees) (i : ℕ) → AreState fs → HoldAll r e fs i ↔ (all_true (r i) e fs ≡ true)
+  HoldAll-state : (r : Situations) (e : Assignment) (fs : FormulaTrees) (i : ℕ) → AreState fs → HoldAll r e fs i ↔
+      (all_true (r i) e fs ≡ true)
   HoldAll-state r e no_formula i h = (λ _. refl, λ _. tt)
   HoldAll-state r e (more_formulas f fs) i h = and-iff (Holds-state r e f i h.0) (HoldAll-state r e fs i h.1)
 
-  HoldsOne-state : (r : Situations) (e : Assignment) (fs : FormulaTrees) (i : ℕ) → AreState fs → HoldsOne r e fs i ↔ (one_true (r i) e fs ≡ true)
+  HoldsOne-state : (r : Situations) (e : Assignment) (fs : FormulaTrees) (i : ℕ) → AreState fs → HoldsOne r e fs i ↔
+      (one_true (r i) e fs ≡ true)
   HoldsOne-state r e no_formula i h = (λ b. absurd b, λ e. true≢false (sym e))
   HoldsOne-state r e (more_formulas f fs) i h = or-iff (Holds-state r e f i h.0) (HoldsOne-state r e fs i h.1)
 
@@ -112,7 +126,8 @@ simplified_and-constants : (bs : List Bool) → simplified_and (map constant bs)
 unfolding simplified_and without_repeats
 simplified_and-constants bs = (elim (all_of bs) as (λ b. all_of bs ≡ b → simplified_and (map constant bs) ≡ constant b) [
   | true ↦ λ e. ap₂ (λ c ps. cond c falsum (conjunction_of (without_repeats ps))) (some_falsum bs ∙ ap not e) (no_part bs e)
-  | false ↦ λ e. ap (λ c. cond c falsum (conjunction_of (without_repeats (filter (λ f. not (is_verum f)) (flat_map and_parts (map constant bs)))))) (some_falsum bs ∙ ap not e)
+  | false ↦ λ e. ap (λ c. cond c falsum (conjunction_of (without_repeats
+      (filter (λ f. not (is_verum f)) (flat_map and_parts (map constant bs)))))) (some_falsum bs ∙ ap not e)
 ]) refl
 
 some_verum : (bs : List Bool) → list_any is_verum (flat_map or_parts (map constant bs)) ≡ one_of bs
@@ -131,7 +146,8 @@ simplified_or-constants : (bs : List Bool) → simplified_or (map constant bs) �
 unfolding simplified_or without_repeats
 simplified_or-constants bs = (elim (one_of bs) as (λ b. one_of bs ≡ b → simplified_or (map constant bs) ≡ constant b) [
   | false ↦ λ e. ap₂ (λ c ps. cond c verum (disjunction_of (without_repeats ps))) (some_verum bs ∙ e) (no_part_or bs e)
-  | true ↦ λ e. ap (λ c. cond c verum (disjunction_of (without_repeats (filter (λ f. not (is_falsum f)) (flat_map or_parts (map constant bs)))))) (some_verum bs ∙ e)
+  | true ↦ λ e. ap (λ c. cond c verum (disjunction_of (without_repeats
+      (filter (λ f. not (is_falsum f)) (flat_map or_parts (map constant bs)))))) (some_verum bs ∙ e)
 ]) refl
 
 simplified_not-constant : (b : Bool) → simplified_not (constant b) ≡ constant (not b)
@@ -179,16 +195,22 @@ mutual
   progressed-state s e (goal_place m xs x) h = refl
   progressed-state s e (goal_not p xs) h = refl
   progressed-state s e (negation f) h = ap simplified_not (progressed-state s e f h) ∙ simplified_not-constant (state_true s e f)
-  progressed-state s e (conjunction fs) h = ap simplified_and (progressed_all-state s e fs h) ∙ (simplified_and-constants (truths s e fs) ∙ ap constant (all_of-truths s e fs))
-  progressed-state s e (disjunction fs) h = ap simplified_or (progressed_all-state s e fs h) ∙ (simplified_or-constants (truths s e fs) ∙ ap constant (one_of-truths s e fs))
+  progressed-state s e (conjunction fs) h = ap simplified_and (progressed_all-state s e fs h) ∙
+      (simplified_and-constants (truths s e fs) ∙ ap constant (all_of-truths s e fs))
+  progressed-state s e (disjunction fs) h = ap simplified_or (progressed_all-state s e fs h) ∙
+      (simplified_or-constants (truths s e fs) ∙ ap constant (one_of-truths s e fs))
   progressed-state s e (for_all ss b f) h =
       let ts : List (List Value) = tuples s e ss b in
       ap (λ (q : List Value → FormulaTree). simplified_and (map q ts)) (fun_ext (λ t. progressed-state s (bind ss t e) f h))
-      ∙ (ap simplified_and (sym (map-map (λ t. state_true s (bind ss t e) f) ts)) ∙ (simplified_and-constants (map (λ t. state_true s (bind ss t e) f) ts) ∙ ap constant (all_of-map (λ t. state_true s (bind ss t e) f) ts)))
+      ∙ (ap simplified_and (sym (map-map (λ t. state_true s (bind ss t e) f) ts)) ∙
+      (simplified_and-constants (map (λ t. state_true s (bind ss t e) f) ts) ∙
+      ap constant (all_of-map (λ t. state_true s (bind ss t e) f) ts)))
   progressed-state s e (for_some ss b f) h =
       let ts : List (List Value) = tuples s e ss b in
       ap (λ (q : List Value → FormulaTree). simplified_or (map q ts)) (fun_ext (λ t. progressed-state s (bind ss t e) f h))
-      ∙ (ap simplified_or (sym (map-map (λ t. state_true s (bind ss t e) f) ts)) ∙ (simplified_or-constants (map (λ t. state_true s (bind ss t e) f) ts) ∙ ap constant (one_of-map (λ t. state_true s (bind ss t e) f) ts)))
+      ∙ (ap simplified_or (sym (map-map (λ t. state_true s (bind ss t e) f) ts)) ∙
+      (simplified_or-constants (map (λ t. state_true s (bind ss t e) f) ts) ∙
+      ap constant (one_of-map (λ t. state_true s (bind ss t e) f) ts)))
   progressed-state s e (next f) h = absurd h
   progressed-state s e (always f) h = absurd h
   progressed-state s e (eventually f) h = absurd h
@@ -196,7 +218,8 @@ mutual
   progressed-state s e (within n f) h = absurd h
   progressed-state s e (during n f) h = absurd h
 
-  progressed_all-state : (s : Situation) (e : Assignment) (fs : FormulaTrees) → AreState fs → progressed_all s e fs ≡ map constant (truths s e fs)
+  progressed_all-state : (s : Situation) (e : Assignment) (fs : FormulaTrees) → AreState fs → progressed_all s e fs ≡
+      map constant (truths s e fs)
   progressed_all-state s e no_formula h = refl
   progressed_all-state s e (more_formulas f fs) h = ap₂ ◌∷◌ (progressed-state s e f h.0) (progressed_all-state s e fs h.1)
 
@@ -208,15 +231,20 @@ not-keeps p r i f =
     hold-both (Satisfies-decided p r i (simplified_not f)) (Satisfies-decided p r i (negation f))
     (simplified_not-fails (situations_of p r) no_values i f)
 
-pub and-keeps : (p : PlainProblem) (r : Run) (i : ℕ) (fs : List FormulaTree) → Satisfies p r i (simplified_and fs) ↔ Satisfies p r i (conjunction (formulas_of_list fs))
+pub and-keeps : (p : PlainProblem) (r : Run) (i : ℕ) (fs : List FormulaTree) → Satisfies p r i (simplified_and fs) ↔
+    Satisfies p r i (conjunction (formulas_of_list fs))
 unfolding SatisfiesAlong Holds
-and-keeps p r i fs = iff-trans (simplified_and-holds (situations_of p r) no_values i fs) (let k = formulas_of_list-All (situations_of p r) no_values i fs in (k.1, k.0))
+and-keeps p r i fs = iff-trans (simplified_and-holds (situations_of p r) no_values i fs)
+    (let k = formulas_of_list-All (situations_of p r) no_values i fs in (k.1, k.0))
 
-pub or-keeps : (p : PlainProblem) (r : Run) (i : ℕ) (fs : List FormulaTree) → Satisfies p r i (simplified_or fs) ↔ Satisfies p r i (disjunction (formulas_of_list fs))
+pub or-keeps : (p : PlainProblem) (r : Run) (i : ℕ) (fs : List FormulaTree) → Satisfies p r i (simplified_or fs) ↔
+    Satisfies p r i (disjunction (formulas_of_list fs))
 unfolding SatisfiesAlong Holds
-or-keeps p r i fs = iff-trans (simplified_or-holds (situations_of p r) no_values i fs) (let k = formulas_of_list-One (situations_of p r) no_values i fs in (k.1, k.0))
+or-keeps p r i fs = iff-trans (simplified_or-holds (situations_of p r) no_values i fs)
+    (let k = formulas_of_list-One (situations_of p r) no_values i fs in (k.1, k.0))
 
 -- a formula without temporal words holds at a position of a run exactly where it is true in the world there
-pub Satisfies-state : (p : PlainProblem) (r : Run) (i : ℕ) (f : FormulaTree) → IsState f → Satisfies p r i f ↔ (state_true (situation_of p (state_at r i)) no_values f ≡ true)
+pub Satisfies-state : (p : PlainProblem) (r : Run) (i : ℕ) (f : FormulaTree) → IsState f → Satisfies p r i f ↔
+    (state_true (situation_of p (state_at r i)) no_values f ≡ true)
 unfolding SatisfiesAlong
 Satisfies-state p r i f h = Holds-state (situations_of p r) no_values f i h

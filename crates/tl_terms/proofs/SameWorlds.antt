@@ -19,22 +19,27 @@ use Rattle.tl_terms.specs.World.{World}
 entry-tells : Tells entry_eq
 entry-tells a b = (
   λ h. let k = both (eq_by_cmp key_cmp a.0 b.0) (eq_by_cmp value_cmp a.1 b.1) h in
-      let p = (order-tells key_total key_ties a.0 b.0).0 k.0 in let q = (order-tells value_total value_ties a.1 b.1).0 k.1 in λ i. (p i, q i),
-  λ e. with_both ((order-tells key_total key_ties a.0 b.0).1 (ap (λ (u : Key × Value). u.0) e)) ((order-tells value_total value_ties a.1 b.1).1 (ap (λ (u : Key × Value). u.1) e)),
+      let p = (order-tells key_total key_ties a.0 b.0).0 k.0 in let q = (order-tells value_total value_ties a.1 b.1).0 k.1 in λ i.
+      (p i, q i),
+  λ e. with_both ((order-tells key_total key_ties a.0 b.0).1 (ap (λ (u : Key × Value). u.0) e))
+      ((order-tells value_total value_ties a.1 b.1).1 (ap (λ (u : Key × Value). u.1) e)),
 )
 
 -- sets of the same items are the same
 same_items : (s t : set.FinSet key_cmp) → set.items s ≡ set.items t → s ≡ t
-same_items s t e = set.same_set key_total key_ties s t (λ q. set.contains-items s q ∙ (ap (λ ks. list_any (eq_by_cmp key_cmp q) ks) e ∙ sym (set.contains-items t q)))
+same_items s t e = set.same_set key_total key_ties s t (λ q. set.contains-items s q ∙
+    (ap (λ ks. list_any (eq_by_cmp key_cmp q) ks) e ∙ sym (set.contains-items t q)))
 
 -- the test holds exactly where the worlds are the same
 pub world-tells : Tells world_eq
 world-tells v w = (
-  λ h. let k = both (pointwise (eq_by_cmp key_cmp) (set.items v.facts) (set.items w.facts)) (pointwise entry_eq (dict.entries v.places) (dict.entries w.places)) h in
+  λ h. let k = both (pointwise (eq_by_cmp key_cmp) (set.items v.facts) (set.items w.facts))
+      (pointwise entry_eq (dict.entries v.places) (dict.entries w.places)) h in
       let p = same_items v.facts w.facts ((list-tells (eq_by_cmp key_cmp) (order-tells key_total key_ties) _ _).0 k.0) in
       let q = dict.same_entries_map v.places w.places ((list-tells entry_eq entry-tells _ _).0 k.1) in
       λ i. record { facts = p i; places = q i },
-  λ e. with_both ((list-tells (eq_by_cmp key_cmp) (order-tells key_total key_ties) _ _).1 (ap (λ (u : World). set.items u.facts) e)) ((list-tells entry_eq entry-tells _ _).1 (ap (λ (u : World). dict.entries u.places) e)),
+  λ e. with_both ((list-tells (eq_by_cmp key_cmp) (order-tells key_total key_ties) _ _).1 (ap (λ (u : World). set.items u.facts) e))
+      ((list-tells entry_eq entry-tells _ _).1 (ap (λ (u : World). dict.entries u.places) e)),
 )
 
 -- two worlds are the same in at most one way, since sameness is decided

@@ -1,22 +1,28 @@
 -- The definitions in the words of substitution: a formula under values is the formula with the values put in.
-use Rattle.std.proofs.Common.{◌≡◌, ℕ, zero, suc, ◌↔◌, List, [], ◌∷◌, map, Bool, true, false, cond, not, ◌==◌, ◌&&◌, ◌||◌, Some, None, refl, sym, ap, ap₂, ◌∙◌}
+use Rattle.std.proofs.Common.{◌≡◌, ℕ, zero, suc, ◌↔◌, List, [], ◌∷◌, map, Bool, true, false, cond, not, ◌==◌, ◌&&◌, ◌||◌, Some, None, refl}
+use Rattle.std.proofs.Common.{sym, ap, ap₂, ◌∙◌}
 use Rattle.std.specs.List.{list_any, list_all}
 use mathlib.Core.Path.{fun_ext}
 use Rattle.tl_syntax.specs.Assignment.{Assignment, no_values, bind}
 use Rattle.tl_terms.specs.Bounds.{tuples}
 use Rattle.tl_terms.specs.LawsProgression.{ProgressesByTheTable}
-use Rattle.tl_terms.specs.LawsSubstitution.{QuantifiersAreTrueByInstances, QuantifiersHoldByInstances, QuantifiersProgressByInstances, MeansTheSameSubstituted}
+use Rattle.tl_terms.specs.LawsSubstitution.{QuantifiersAreTrueByInstances, QuantifiersHoldByInstances, QuantifiersProgressByInstances}
+use Rattle.tl_terms.specs.LawsSubstitution.{MeansTheSameSubstituted}
 use Rattle.tl_syntax.specs.Lists.{Each, AtLeastOne}
 use Rattle.tl_terms.specs.Problem.{PlainProblem}
 use Rattle.tl_terms.specs.Progression.{constant, progressed, progressed_all}
 use Rattle.tl_terms.specs.Run.{Situations, Holds, Run, situations_of, SatisfiesAlong}
 use Rattle.tl_terms.specs.Simplification.{simplified_and, simplified_or, simplified_not}
 use Rattle.tl_terms.specs.Situation.{Situation}
-use Rattle.tl_syntax.specs.Substitution.{or_else, over, without, value_or_arg, substituted_arg, substituted_args, substituted_bound, value_or_term, substituted_term, substituted_terms, substituted, substituted_all}
-use Rattle.tl_syntax.specs.Trees.{TermTree, variable, value, place, arith, TermTrees, no_term, more_terms, FormulaTree, verum, falsum, atom, defined, compare, goal_fact, goal_place, goal_not, negation, conjunction, disjunction, for_all, for_some, next, always, eventually, until, within, during, FormulaTrees, no_formula, more_formulas}
+use Rattle.tl_syntax.specs.Substitution.{or_else, over, without, value_or_arg, substituted_arg, substituted_args, substituted_bound}
+use Rattle.tl_syntax.specs.Substitution.{value_or_term, substituted_term, substituted_terms, substituted, substituted_all}
+use Rattle.tl_syntax.specs.Trees.{TermTree, variable, value, place, arith, TermTrees, no_term, more_terms, FormulaTree, verum, falsum, atom}
+use Rattle.tl_syntax.specs.Trees.{defined, compare, goal_fact, goal_place, goal_not, negation, conjunction, disjunction, for_all, for_some}
+use Rattle.tl_syntax.specs.Trees.{next, always, eventually, until, within, during, FormulaTrees, no_formula, more_formulas}
 use Rattle.tl_terms.specs.Truth.{state_true, all_true, one_true}
 use Rattle.tl_syntax.proofs.ListLaws.{Each-map, One-map}
-use Rattle.tl_terms.proofs.SubstitutedHolds.{over-no_values, bind-over, basic-substituted, tuples-substituted, Holds-substituted, Holds-substituted-no_values}
+use Rattle.tl_terms.proofs.SubstitutedHolds.{over-no_values, bind-over, basic-substituted, tuples-substituted, Holds-substituted}
+use Rattle.tl_terms.proofs.SubstitutedHolds.{Holds-substituted-no_values}
 use Rattle.tl_syntax.specs.declared.value.Value.{Value}
 use Rattle.tl_syntax.specs.declared.variable.Var.{Var}
 use Rattle.tl_syntax.specs.declared.variable.Arg.{Arg}
@@ -29,7 +35,8 @@ use Rattle.tl_syntax.specs.declared.bound.Bound.TheVariants as bound
 mutual
   unfolding state_true substituted
 
-  pub state-substituted : (s : Situation) (d e : Assignment) (f : FormulaTree) → state_true s d (substituted e f) ≡ state_true s (over e d) f
+  pub state-substituted : (s : Situation) (d e : Assignment) (f : FormulaTree) → state_true s d (substituted e f) ≡
+      state_true s (over e d) f
   state-substituted s d e verum = refl
   state-substituted s d e falsum = refl
   state-substituted s d e (atom p ts) = basic-substituted s e d (atom p ts) tt
@@ -66,31 +73,39 @@ mutual
 
 -- a `forall` is true where each tuple of its bound gives a true instance
 pub state-for_all : (s : Situation) (ss : List Var) (b : Bound) (f : FormulaTree)
-    → state_true s no_values (for_all ss b f) ≡ list_all (λ t. state_true s no_values (substituted (bind ss t no_values) f)) (tuples s no_values ss b)
+    → state_true s no_values (for_all ss b f) ≡ list_all (λ t. state_true s no_values (substituted (bind ss t no_values) f))
+    (tuples s no_values ss b)
 unfolding state_true
-state-for_all s ss b f = ap (λ (p : List Value → Bool). list_all p (tuples s no_values ss b)) (fun_ext (λ t. sym (state-substituted s no_values (bind ss t no_values) f ∙ ap (λ (x : Assignment). state_true s x f) (over-no_values (bind ss t no_values)))))
+state-for_all s ss b f = ap (λ (p : List Value → Bool). list_all p (tuples s no_values ss b))
+    (fun_ext (λ t. sym (state-substituted s no_values (bind ss t no_values) f ∙
+    ap (λ (x : Assignment). state_true s x f) (over-no_values (bind ss t no_values)))))
 
 -- an `exists` is true where some tuple of its bound gives a true instance
 pub state-for_some : (s : Situation) (ss : List Var) (b : Bound) (f : FormulaTree)
-    → state_true s no_values (for_some ss b f) ≡ list_any (λ t. state_true s no_values (substituted (bind ss t no_values) f)) (tuples s no_values ss b)
+    → state_true s no_values (for_some ss b f) ≡ list_any (λ t. state_true s no_values (substituted (bind ss t no_values) f))
+    (tuples s no_values ss b)
 unfolding state_true
-state-for_some s ss b f = ap (λ (p : List Value → Bool). list_any p (tuples s no_values ss b)) (fun_ext (λ t. sym (state-substituted s no_values (bind ss t no_values) f ∙ ap (λ (x : Assignment). state_true s x f) (over-no_values (bind ss t no_values)))))
+state-for_some s ss b f = ap (λ (p : List Value → Bool). list_any p (tuples s no_values ss b))
+    (fun_ext (λ t. sym (state-substituted s no_values (bind ss t no_values) f ∙
+    ap (λ (x : Assignment). state_true s x f) (over-no_values (bind ss t no_values)))))
 
 -- ---- putting values in twice
 
 over-without-at : (ss : List Var) (e d : Assignment) (q : ℕ) → over (without ss e) (without ss d) q ≡ without ss (over e d) q
 over-without-at [] e d q = refl
-over-without-at (s ∷ ss) e d q = (elim (q == s.slot) as (λ b. or_else (cond b None (without ss e q)) (cond b None (without ss d q)) ≡ cond b None (without ss (over e d) q)) [
-  | true ↦ refl
-  | false ↦ over-without-at ss e d q
-])
+over-without-at (s ∷ ss) e d q = (elim (q == s.slot) as (λ b. or_else (cond b None (without ss e q)) (cond b None (without ss d q)) ≡
+    cond b None (without ss (over e d) q)) [
+      | true ↦ refl
+      | false ↦ over-without-at ss e d q
+    ])
 
 over-without : (ss : List Var) (e d : Assignment) → over (without ss e) (without ss d) ≡ without ss (over e d)
 over-without ss e d = fun_ext (over-without-at ss e d)
 
 arg-twice : (d e : Assignment) (a : Arg) → substituted_arg d (substituted_arg e a) ≡ substituted_arg (over e d) a
 arg-twice d e (arg.Val v) = refl
-arg-twice d e (arg.Var s) = (elim (e s.slot) as (λ o. substituted_arg d (value_or_arg o (arg.Var s)) ≡ value_or_arg (or_else o (d s.slot)) (arg.Var s)) [ Some v ↦ refl | None ↦ refl ])
+arg-twice d e (arg.Var s) = (elim (e s.slot) as (λ o. substituted_arg d (value_or_arg o (arg.Var s)) ≡
+    value_or_arg (or_else o (d s.slot)) (arg.Var s)) [ Some v ↦ refl | None ↦ refl ])
 
 args-twice : (d e : Assignment) (xs : List Arg) → substituted_args d (substituted_args e xs) ≡ substituted_args (over e d) xs
 args-twice d e [] = refl
@@ -107,7 +122,8 @@ mutual
   unfolding substituted_term
 
   term-twice : (d e : Assignment) (t : TermTree) → substituted_term d (substituted_term e t) ≡ substituted_term (over e d) t
-  term-twice d e (variable s) = (elim (e s.slot) as (λ o. substituted_term d (value_or_term o (variable s)) ≡ value_or_term (or_else o (d s.slot)) (variable s)) [ Some v ↦ refl | None ↦ refl ])
+  term-twice d e (variable s) = (elim (e s.slot) as (λ o. substituted_term d (value_or_term o (variable s)) ≡
+      value_or_term (or_else o (d s.slot)) (variable s)) [ Some v ↦ refl | None ↦ refl ])
   term-twice d e (value v) = refl
   term-twice d e (place f ts) = ap (place f) (terms-twice d e ts)
   term-twice d e (arith op s t at) = ap₂ (λ a b. arith op a b at) (term-twice d e s) (term-twice d e t)
@@ -131,8 +147,12 @@ mutual
   substituted-twice d e (negation f) = ap negation (substituted-twice d e f)
   substituted-twice d e (conjunction fs) = ap conjunction (all-twice d e fs)
   substituted-twice d e (disjunction fs) = ap disjunction (all-twice d e fs)
-  substituted-twice d e (for_all ss b f) = ap₂ (for_all ss) (bound-twice (without ss d) (without ss e) b ∙ ap (λ (x : Assignment). substituted_bound x b) (over-without ss e d)) (substituted-twice (without ss d) (without ss e) f ∙ ap (λ (x : Assignment). substituted x f) (over-without ss e d))
-  substituted-twice d e (for_some ss b f) = ap₂ (for_some ss) (bound-twice (without ss d) (without ss e) b ∙ ap (λ (x : Assignment). substituted_bound x b) (over-without ss e d)) (substituted-twice (without ss d) (without ss e) f ∙ ap (λ (x : Assignment). substituted x f) (over-without ss e d))
+  substituted-twice d e (for_all ss b f) = ap₂ (for_all ss) (bound-twice (without ss d) (without ss e) b ∙
+      ap (λ (x : Assignment). substituted_bound x b) (over-without ss e d))
+      (substituted-twice (without ss d) (without ss e) f ∙ ap (λ (x : Assignment). substituted x f) (over-without ss e d))
+  substituted-twice d e (for_some ss b f) = ap₂ (for_some ss) (bound-twice (without ss d) (without ss e) b ∙
+      ap (λ (x : Assignment). substituted_bound x b) (over-without ss e d))
+      (substituted-twice (without ss d) (without ss e) f ∙ ap (λ (x : Assignment). substituted x f) (over-without ss e d))
   substituted-twice d e (next f) = ap next (substituted-twice d e f)
   substituted-twice d e (always f) = ap always (substituted-twice d e f)
   substituted-twice d e (eventually f) = ap eventually (substituted-twice d e f)
@@ -149,7 +169,8 @@ mutual
 mutual
   unfolding progressed substituted
 
-  pub progressed-substituted : (s : Situation) (d e : Assignment) (f : FormulaTree) → progressed s d (substituted e f) ≡ progressed s (over e d) f
+  pub progressed-substituted : (s : Situation) (d e : Assignment) (f : FormulaTree) → progressed s d (substituted e f) ≡
+      progressed s (over e d) f
   progressed-substituted s d e verum = refl
   progressed-substituted s d e falsum = refl
   progressed-substituted s d e (atom p ts) = ap constant (state-substituted s d e (atom p ts))
@@ -163,57 +184,80 @@ mutual
   progressed-substituted s d e (disjunction fs) = ap simplified_or (progressed_all-substituted s d e fs)
   progressed-substituted s d e (for_all ss b f) =
       ap₂ (λ (p : List Value → FormulaTree) ts. simplified_and (map p ts))
-      (fun_ext (λ t. progressed-substituted s (bind ss t d) (without ss e) f ∙ ap (λ (x : Assignment). progressed s x f) (bind-over ss t e d)))
+      (fun_ext (λ t. progressed-substituted s (bind ss t d) (without ss e) f ∙
+      ap (λ (x : Assignment). progressed s x f) (bind-over ss t e d)))
       (tuples-substituted s e d ss b)
   progressed-substituted s d e (for_some ss b f) =
       ap₂ (λ (p : List Value → FormulaTree) ts. simplified_or (map p ts))
-      (fun_ext (λ t. progressed-substituted s (bind ss t d) (without ss e) f ∙ ap (λ (x : Assignment). progressed s x f) (bind-over ss t e d)))
+      (fun_ext (λ t. progressed-substituted s (bind ss t d) (without ss e) f ∙
+      ap (λ (x : Assignment). progressed s x f) (bind-over ss t e d)))
       (tuples-substituted s e d ss b)
   progressed-substituted s d e (next f) = substituted-twice d e f
-  progressed-substituted s d e (always f) = ap₂ (λ a b. simplified_and (a ∷ b ∷ [])) (progressed-substituted s d e f) (substituted-twice d e (always f))
-  progressed-substituted s d e (eventually f) = ap₂ (λ a b. simplified_or (a ∷ b ∷ [])) (progressed-substituted s d e f) (substituted-twice d e (eventually f))
-  progressed-substituted s d e (until f g) = ap₂ (λ a b. simplified_or (a ∷ b ∷ [])) (progressed-substituted s d e g) (ap₂ (λ a b. simplified_and (a ∷ b ∷ [])) (progressed-substituted s d e f) (substituted-twice d e (until f g)))
+  progressed-substituted s d e (always f) = ap₂ (λ a b. simplified_and (a ∷ b ∷ [])) (progressed-substituted s d e f)
+      (substituted-twice d e (always f))
+  progressed-substituted s d e (eventually f) = ap₂ (λ a b. simplified_or (a ∷ b ∷ [])) (progressed-substituted s d e f)
+      (substituted-twice d e (eventually f))
+  progressed-substituted s d e (until f g) = ap₂ (λ a b. simplified_or (a ∷ b ∷ [])) (progressed-substituted s d e g)
+      (ap₂ (λ a b. simplified_and (a ∷ b ∷ [])) (progressed-substituted s d e f) (substituted-twice d e (until f g)))
   progressed-substituted s d e (within zero f) = progressed-substituted s d e f
-  progressed-substituted s d e (within (suc n) f) = ap₂ (λ a b. simplified_or (a ∷ b ∷ [])) (progressed-substituted s d e f) (substituted-twice d e (within n f))
+  progressed-substituted s d e (within (suc n) f) = ap₂ (λ a b. simplified_or (a ∷ b ∷ [])) (progressed-substituted s d e f)
+      (substituted-twice d e (within n f))
   progressed-substituted s d e (during zero f) = progressed-substituted s d e f
-  progressed-substituted s d e (during (suc n) f) = ap₂ (λ a b. simplified_and (a ∷ b ∷ [])) (progressed-substituted s d e f) (substituted-twice d e (during n f))
+  progressed-substituted s d e (during (suc n) f) = ap₂ (λ a b. simplified_and (a ∷ b ∷ [])) (progressed-substituted s d e f)
+      (substituted-twice d e (during n f))
 
-  progressed_all-substituted : (s : Situation) (d e : Assignment) (fs : FormulaTrees) → progressed_all s d (substituted_all e fs) ≡ progressed_all s (over e d) fs
+  progressed_all-substituted : (s : Situation) (d e : Assignment) (fs : FormulaTrees) → progressed_all s d (substituted_all e fs) ≡
+      progressed_all s (over e d) fs
   progressed_all-substituted s d e no_formula = refl
   progressed_all-substituted s d e (more_formulas f fs) = ap₂ ◌∷◌ (progressed-substituted s d e f) (progressed_all-substituted s d e fs)
 
 -- a `forall` progresses to the simplified_and of its progressed instances, in tuple order
 pub progressed-for_all : (s : Situation) (ss : List Var) (b : Bound) (f : FormulaTree)
-    → progressed s no_values (for_all ss b f) ≡ simplified_and (map (λ t. progressed s no_values (substituted (bind ss t no_values) f)) (tuples s no_values ss b))
+    → progressed s no_values (for_all ss b f) ≡ simplified_and (map (λ t. progressed s no_values (substituted (bind ss t no_values) f))
+    (tuples s no_values ss b))
 unfolding progressed
-progressed-for_all s ss b f = ap (λ (p : List Value → FormulaTree). simplified_and (map p (tuples s no_values ss b))) (fun_ext (λ t. sym (progressed-substituted s no_values (bind ss t no_values) f ∙ ap (λ (x : Assignment). progressed s x f) (over-no_values (bind ss t no_values)))))
+progressed-for_all s ss b f = ap (λ (p : List Value → FormulaTree). simplified_and (map p (tuples s no_values ss b)))
+    (fun_ext (λ t. sym (progressed-substituted s no_values (bind ss t no_values) f ∙
+    ap (λ (x : Assignment). progressed s x f) (over-no_values (bind ss t no_values)))))
 
 -- an `exists` progresses to the simplified_or of its progressed instances, in tuple order
 pub progressed-for_some : (s : Situation) (ss : List Var) (b : Bound) (f : FormulaTree)
-    → progressed s no_values (for_some ss b f) ≡ simplified_or (map (λ t. progressed s no_values (substituted (bind ss t no_values) f)) (tuples s no_values ss b))
+    → progressed s no_values (for_some ss b f) ≡ simplified_or (map (λ t. progressed s no_values (substituted (bind ss t no_values) f))
+    (tuples s no_values ss b))
 unfolding progressed
-progressed-for_some s ss b f = ap (λ (p : List Value → FormulaTree). simplified_or (map p (tuples s no_values ss b))) (fun_ext (λ t. sym (progressed-substituted s no_values (bind ss t no_values) f ∙ ap (λ (x : Assignment). progressed s x f) (over-no_values (bind ss t no_values)))))
+progressed-for_some s ss b f = ap (λ (p : List Value → FormulaTree). simplified_or (map p (tuples s no_values ss b)))
+    (fun_ext (λ t. sym (progressed-substituted s no_values (bind ss t no_values) f ∙
+    ap (λ (x : Assignment). progressed s x f) (over-no_values (bind ss t no_values)))))
 
 -- a `forall` holds where each of its instances does
 pub Holds-for_all : (r : Situations) (i : ℕ) (ss : List Var) (b : Bound) (f : FormulaTree)
-    → Holds r no_values (for_all ss b f) i ↔ Each (λ t. Holds r no_values (substituted (bind ss t no_values) f) i) (tuples (r i) no_values ss b)
+    → Holds r no_values (for_all ss b f) i ↔ Each (λ t. Holds r no_values (substituted (bind ss t no_values) f) i)
+    (tuples (r i) no_values ss b)
 unfolding Holds
-Holds-for_all r i ss b f = Each-map (λ t. let k = Holds-substituted-no_values r (bind ss t no_values) f i in (k.1, k.0)) (tuples (r i) no_values ss b)
+Holds-for_all r i ss b f = Each-map (λ t. let k = Holds-substituted-no_values r (bind ss t no_values) f i in (k.1, k.0))
+    (tuples (r i) no_values ss b)
 
 -- an `exists` holds where one of its instances does
 pub Holds-for_some : (r : Situations) (i : ℕ) (ss : List Var) (b : Bound) (f : FormulaTree)
-    → Holds r no_values (for_some ss b f) i ↔ AtLeastOne (λ t. Holds r no_values (substituted (bind ss t no_values) f) i) (tuples (r i) no_values ss b)
+    → Holds r no_values (for_some ss b f) i ↔ AtLeastOne (λ t. Holds r no_values (substituted (bind ss t no_values) f) i)
+    (tuples (r i) no_values ss b)
 unfolding Holds
-Holds-for_some r i ss b f = One-map (λ t. let k = Holds-substituted-no_values r (bind ss t no_values) f i in (k.1, k.0)) (tuples (r i) no_values ss b)
+Holds-for_some r i ss b f = One-map (λ t. let k = Holds-substituted-no_values r (bind ss t no_values) f i in (k.1, k.0))
+    (tuples (r i) no_values ss b)
 
 -- ---- together
 
 pub truth-by-instances : (s : Situation) (ss : List Var) (b : Bound) (f : FormulaTree) → QuantifiersAreTrueByInstances s ss b f
 truth-by-instances s ss b f = record { of_forall = state-for_all s ss b f; of_exists = state-for_some s ss b f }
 
-pub satisfaction-by-instances : (p : PlainProblem) (r : Run) (i : ℕ) (ss : List Var) (b : Bound) (f : FormulaTree) → QuantifiersHoldByInstances p r i ss b f
+pub satisfaction-by-instances : (p : PlainProblem) (r : Run) (i : ℕ) (ss : List Var) (b : Bound) (f : FormulaTree) →
+    QuantifiersHoldByInstances p r i ss b f
 unfolding SatisfiesAlong
-satisfaction-by-instances p r i ss b f = record { of_forall = Holds-for_all (situations_of p r) i ss b f; of_exists = Holds-for_some (situations_of p r) i ss b f }
+satisfaction-by-instances p r i ss b f = record {
+  of_forall = Holds-for_all (situations_of p r) i ss b f;
+  of_exists =
+      Holds-for_some (situations_of p r) i ss b f;
+}
 
 pub progression-by-instances : (s : Situation) (ss : List Var) (b : Bound) (f : FormulaTree) → QuantifiersProgressByInstances s ss b f
 progression-by-instances s ss b f = record { of_forall = progressed-for_all s ss b f; of_exists = progressed-for_some s ss b f }
@@ -277,8 +321,10 @@ mutual
   substituted-none (negation f) = ap negation (substituted-none f)
   substituted-none (conjunction fs) = ap conjunction (all-none fs)
   substituted-none (disjunction fs) = ap disjunction (all-none fs)
-  substituted-none (for_all ss b f) = ap₂ (for_all ss) (ap (λ (x : Assignment). substituted_bound x b) (without-none ss) ∙ bound-none b) (ap (λ (x : Assignment). substituted x f) (without-none ss) ∙ substituted-none f)
-  substituted-none (for_some ss b f) = ap₂ (for_some ss) (ap (λ (x : Assignment). substituted_bound x b) (without-none ss) ∙ bound-none b) (ap (λ (x : Assignment). substituted x f) (without-none ss) ∙ substituted-none f)
+  substituted-none (for_all ss b f) = ap₂ (for_all ss) (ap (λ (x : Assignment). substituted_bound x b) (without-none ss) ∙ bound-none b)
+      (ap (λ (x : Assignment). substituted x f) (without-none ss) ∙ substituted-none f)
+  substituted-none (for_some ss b f) = ap₂ (for_some ss) (ap (λ (x : Assignment). substituted_bound x b) (without-none ss) ∙ bound-none b)
+      (ap (λ (x : Assignment). substituted x f) (without-none ss) ∙ substituted-none f)
   substituted-none (next f) = ap next (substituted-none f)
   substituted-none (always f) = ap always (substituted-none f)
   substituted-none (eventually f) = ap eventually (substituted-none f)
@@ -297,7 +343,8 @@ progression-table s f g n = record {
   of_next = substituted-none f;
   of_always = ap (λ (h : FormulaTree). simplified_and (progressed s no_values f ∷ h ∷ [])) (substituted-none (always f));
   of_eventually = ap (λ (h : FormulaTree). simplified_or (progressed s no_values f ∷ h ∷ [])) (substituted-none (eventually f));
-  of_until = ap (λ (h : FormulaTree). simplified_or (progressed s no_values g ∷ simplified_and (progressed s no_values f ∷ h ∷ []) ∷ [])) (substituted-none (until f g));
+  of_until = ap (λ (h : FormulaTree). simplified_or (progressed s no_values g ∷ simplified_and (progressed s no_values f ∷ h ∷ []) ∷ []))
+      (substituted-none (until f g));
   of_within_none = refl;
   of_within_more = ap (λ (h : FormulaTree). simplified_or (progressed s no_values f ∷ h ∷ [])) (substituted-none (within n f));
   of_during_none = refl;

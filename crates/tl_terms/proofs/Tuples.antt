@@ -1,5 +1,6 @@
 -- The tuples of a bound are all those that make it true.
-use Rattle.std.proofs.Common.{is_some, ◌≡◌, ℕ, zero, suc, ◌⊎◌, ◌↔◌, List, [], ◌∷◌, map, flat_map, length, true, false, cond, ◌||◌, true≢false, Some, None, refl, sym, ap, ◌∙◌, subst, inl, inr, arith}
+use Rattle.std.proofs.Common.{is_some, ◌≡◌, ℕ, zero, suc, ◌⊎◌, ◌↔◌, List, [], ◌∷◌, map, flat_map, length, true, false, cond, ◌||◌}
+use Rattle.std.proofs.Common.{true≢false, Some, None, refl, sym, ap, ◌∙◌, subst, inl, inr, arith}
 use borrow.Author.Tests.{eq-eqb, eqb-true, ne_eqb}
 use Rattle.std.specs.List.{list_any}
 use Rattle.std.specs.FinSet as set
@@ -31,13 +32,15 @@ unfolding tuples_of
 Among-tuples_of vs zero [] = (λ h. (refl, tt), λ h. inl refl)
 Among-tuples_of vs zero (x ∷ t) = (elim [ inl e ↦ cc | inr b ↦ absurd b ], λ h. absurd (let k : ⊥ = omega arith in k))
 Among-tuples_of vs (suc n) [] = (
-  λ h. let w = one_out (λ v. Among [] (map (λ u. v ∷ u) (tuples_of vs n))) vs ((One-flat (λ y. y ≡ []) (λ v. map (λ u. v ∷ u) (tuples_of vs n)) vs).0 h) in
+  λ h. let w = one_out (λ v. Among [] (map (λ u. v ∷ u) (tuples_of vs n))) vs
+      ((One-flat (λ y. y ≡ []) (λ v. map (λ u. v ∷ u) (tuples_of vs n)) vs).0 h) in
       let u = one_out (λ u. w.0 ∷ u ≡ []) (tuples_of vs n) ((One-over (λ y. y ≡ []) (λ u. w.0 ∷ u) (tuples_of vs n)).0 w.1.1) in
       let e : w.0 ∷ u.0 ≡ [] = u.1.1 in cc,
   λ h. absurd (let k : ⊥ = omega arith in k),
 )
 Among-tuples_of vs (suc n) (x ∷ t) = (
-  λ h. let w = one_out (λ v. Among (x ∷ t) (map (λ u. v ∷ u) (tuples_of vs n))) vs ((One-flat (λ y. y ≡ x ∷ t) (λ v. map (λ u. v ∷ u) (tuples_of vs n)) vs).0 h) in
+  λ h. let w = one_out (λ v. Among (x ∷ t) (map (λ u. v ∷ u) (tuples_of vs n))) vs
+      ((One-flat (λ y. y ≡ x ∷ t) (λ v. map (λ u. v ∷ u) (tuples_of vs n)) vs).0 h) in
       let u = one_out (λ u. w.0 ∷ u ≡ x ∷ t) (tuples_of vs n) ((One-over (λ y. y ≡ x ∷ t) (λ u. w.0 ∷ u) (tuples_of vs n)).0 w.1.1) in
       let e : w.0 ∷ u.0 ≡ x ∷ t = u.1.1 in
       let p : w.0 ≡ x = cc in let q : u.0 ≡ t = cc in
@@ -54,7 +57,8 @@ abbrev pub worlds_of : Situation → List World
 worlds_of s = s.world ∷ s.goal ∷ s.avoid ∷ []
 
 pub Among-tuples : (s : Situation) (e : Assignment) (ss : List Var) (b : Bound) (t : List Value)
-    → Among t (tuples s e ss b) ↔ (((length t ≡ length ss) × Each (λ v. Among v (values_of (worlds_of s))) t) × (bound_true s (bind ss t e) b ≡ true))
+    → Among t (tuples s e ss b) ↔ (((length t ≡ length ss) × Each (λ v. Among v (values_of (worlds_of s))) t) ×
+    (bound_true s (bind ss t e) b ≡ true))
 unfolding tuples
 Among-tuples s e ss b t =
     let k = Among-filter (λ u. bound_true s (bind ss u e) b) t (tuples_of (values_of (worlds_of s)) (length ss)) in
@@ -65,13 +69,18 @@ Among-tuples s e ss b t =
 
 find_among : (v : Value) (es : List (Value × Unit {0})) → (is_some (dict.find value_cmp v es) ≡ true) ↔ Among v (map (λ e. e.0) es)
 find_among v [] = (λ h. true≢false (sym h), λ h. absurd h)
-find_among v (x ∷ es) = (elim (eq_by_cmp value_cmp v x.0) as (λ b. eq_by_cmp value_cmp v x.0 ≡ b → (is_some (cond b (Some x.1) (dict.find value_cmp v es)) ≡ true) ↔ (x.0 ≡ v ⊎ Among v (map (λ e. e.0) es))) [
-  | true ↦ λ q. (λ _. inl (sym (value_ties v x.0 ((Equal-is (value_cmp v x.0)).0 q))), λ _. refl)
-  | false ↦ λ q. (
-    λ h. inr ((find_among v es).0 h),
-    λ h. elim h [ inl e ↦ absurd (true≢false (sym (ap is_eq (tied_itself value_total v)) ∙ (ap (λ z. eq_by_cmp value_cmp v z) (sym e) ∙ q))) | inr k ↦ (find_among v es).1 k ],
-  )
-]) refl
+find_among v (x ∷ es) = (elim (eq_by_cmp value_cmp v x.0) as (λ b. eq_by_cmp value_cmp v x.0 ≡ b →
+    (is_some (cond b (Some x.1) (dict.find value_cmp v es)) ≡ true) ↔ (x.0 ≡ v ⊎ Among v (map (λ e. e.0) es))) [
+      | true ↦ λ q. (λ _. inl (sym (value_ties v x.0 ((Equal-is (value_cmp v x.0)).0 q))), λ _. refl)
+      | false ↦ λ q. (
+        λ h. inr ((find_among v es).0 h),
+        λ h. elim h [
+          | inl e ↦ absurd (true≢false (sym (ap is_eq (tied_itself value_total v)) ∙
+              (ap (λ z. eq_by_cmp value_cmp v z) (sym e) ∙ q)))
+          | inr k ↦ (find_among v es).1 k
+        ],
+      )
+    ]) refl
 
 keys-map : (vs : List Value) → map (λ (e : Value × Unit {0}). e.0) (marked vs) ≡ vs
 keys-map [] = refl
@@ -83,65 +92,77 @@ Among-values_of ws v =
     let vs : List Value = flat_map values_in ws in
     let es : List (Value × Unit {0}) = marked vs in
     let m : dict.FinMap value_cmp (Unit {0}) = dict.from_entries es in
-    let same : is_some (dict.find value_cmp v (dict.entries m)) ≡ is_some (dict.find value_cmp v es) = ap is_some (sym (dict.get-entries m v) ∙ dict.get-from_entries value_total es v) in (
+    let same : is_some (dict.find value_cmp v (dict.entries m)) ≡ is_some (dict.find value_cmp v es) =
+    ap is_some (sym (dict.get-entries m v) ∙ dict.get-from_entries value_total es v) in (
       λ h. subst (Among v) (keys-map vs) ((find_among v es).0 (sym same ∙ (find_among v (dict.entries m)).1 h)),
       λ h. (find_among v (dict.entries m)).0 (same ∙ (find_among v es).1 (subst (Among v) (sym (keys-map vs)) h)),
     )
 
 -- ---- a tuple that makes the bound true has its values in the worlds
 
-args-among : (e : Assignment) (xs : List Arg) (vs : List Value) → arg_values e xs ≡ Some vs → (a : Arg) → Among a xs → (v : Value) → arg_value e a ≡ Some v → Among v vs
+args-among : (e : Assignment) (xs : List Arg) (vs : List Value) → arg_values e xs ≡ Some vs → (a : Arg) → Among a xs → (v : Value) →
+    arg_value e a ≡ Some v → Among v vs
 args-among e [] vs h a m v q = absurd m
-args-among e (x ∷ xs) vs h a m v q = (elim (arg_value e x) as (λ o. arg_value e x ≡ o → prepend o (arg_values e xs) ≡ Some vs → Among v vs) [
-  | None ↦ λ p k. cc
-  | Some u ↦ λ p. (elim (arg_values e xs) as (λ o. arg_values e xs ≡ o → prepend (Some u) o ≡ Some vs → Among v vs) [
-    | None ↦ λ r k. cc
-    | Some us ↦ λ r k.
-        let same : u ∷ us ≡ vs = cc in
-        subst (Among v) same (elim m [
-          | inl z ↦ inl (let d : Some u ≡ Some v = sym p ∙ (ap (arg_value e) z ∙ q) in let f : u ≡ v = cc in f)
-          | inr n ↦ inr (args-among e xs us r a n v q)
-        ])
-  ]) refl
-]) refl h
+args-among e (x ∷ xs) vs h a m v q = (elim (arg_value e x) as (λ o. arg_value e x ≡ o → prepend o (arg_values e xs) ≡ Some vs →
+    Among v vs) [
+      | None ↦ λ p k. cc
+      | Some u ↦ λ p. (elim (arg_values e xs) as (λ o. arg_values e xs ≡ o → prepend (Some u) o ≡ Some vs → Among v vs) [
+        | None ↦ λ r k. cc
+        | Some us ↦ λ r k.
+            let same : u ∷ us ≡ vs = cc in
+            subst (Among v) same (elim m [
+              | inl z ↦ inl (let d : Some u ≡ Some v = sym p ∙ (ap (arg_value e) z ∙ q) in let f : u ≡ v = cc in f)
+              | inr n ↦ inr (args-among e xs us r a n v q)
+            ])
+      ]) refl
+    ]) refl h
 
 fact-values : (w : World) (k : Key) → has_fact w k ≡ true → (v : Value) → Among v k.1 → Among v (values_in w)
 fact-values w k h v m =
     (One-append (λ y. y ≡ v) (flat_map (λ x. x.1) (set.items w.facts)) (flat_map (λ x. x.1 ∷ x.0.1) (dict.entries w.places))).1
     (inl ((One-flat (λ y. y ≡ v) (λ (x : Key). x.1) (set.items w.facts)).1
-    (one_in (λ (x : Key). Among v x.1) k (set.items w.facts) ((key-among k (set.items w.facts)).1 (sym (set.contains-items w.facts k) ∙ h)) m)))
+    (one_in (λ (x : Key). Among v x.1) k (set.items w.facts) ((key-among k (set.items w.facts)).1 (sym (set.contains-items w.facts k) ∙ h))
+    m)))
 
 place-values : (w : World) (k : Key) (u : Value) → value_at w k ≡ Some u → (v : Value) → (u ≡ v ⊎ Among v k.1) → Among v (values_in w)
 place-values w k u h v m =
     (One-append (λ y. y ≡ v) (flat_map (λ x. x.1) (set.items w.facts)) (flat_map (λ x. x.1 ∷ x.0.1) (dict.entries w.places))).1
     (inr ((One-flat (λ y. y ≡ v) (λ (x : Key × Value). x.1 ∷ x.0.1) (dict.entries w.places)).1
-    (one_in (λ (x : Key × Value). Among v (x.1 ∷ x.0.1)) (k, u) (dict.entries w.places) (entry_of (dict.entries w.places) k u (sym (dict.get-entries w.places k) ∙ h)) m)))
+    (one_in (λ (x : Key × Value). Among v (x.1 ∷ x.0.1)) (k, u) (dict.entries w.places)
+    (entry_of (dict.entries w.places) k u (sym (dict.get-entries w.places k) ∙ h)) m)))
 
-fact-bound : (w : World) (e : Assignment) (p : ℕ) (xs : List Arg) → fact_in w p (arg_values e xs) ≡ true → (a : Arg) → Among a xs → (v : Value) → arg_value e a ≡ Some v → Among v (values_in w)
+fact-bound : (w : World) (e : Assignment) (p : ℕ) (xs : List Arg) → fact_in w p (arg_values e xs) ≡ true → (a : Arg) → Among a xs →
+    (v : Value) → arg_value e a ≡ Some v → Among v (values_in w)
 fact-bound w e p xs h a m v q = (elim (arg_values e xs) as (λ o. arg_values e xs ≡ o → fact_in w p o ≡ true → Among v (values_in w)) [
   | None ↦ λ r k. absurd (true≢false (sym k))
   | Some vs ↦ λ r k. fact-values w (p, vs) k v (args-among e xs vs r a m v q)
 ]) refl h
 
-place-bound : (w : World) (e : Assignment) (f : ℕ) (xs : List Arg) (x : Arg) → same_value (place_value w f (arg_values e xs)) (arg_value e x) ≡ true → (a : Arg) → Among a (x ∷ xs) → (v : Value) → arg_value e a ≡ Some v → Among v (values_in w)
-place-bound w e f xs x h a m v q = (elim (arg_values e xs) as (λ o. arg_values e xs ≡ o → same_value (place_value w f o) (arg_value e x) ≡ true → Among v (values_in w)) [
-  | None ↦ λ r k. absurd (true≢false (sym k))
-  | Some vs ↦ λ r. (elim (value_at w (f, vs)) as (λ o. value_at w (f, vs) ≡ o → same_value o (arg_value e x) ≡ true → Among v (values_in w)) [
-    | None ↦ λ n k. absurd (true≢false (sym k))
-    | Some u ↦ λ n. (elim (arg_value e x) as (λ o. arg_value e x ≡ o → same_value (Some u) o ≡ true → Among v (values_in w)) [
-      | None ↦ λ z k. absurd (true≢false (sym k))
-      | Some y ↦ λ z k. place-values w (f, vs) u n v (elim m [
-        | inl c ↦ inl (let d : Some y ≡ Some v = sym z ∙ (ap (arg_value e) c ∙ q) in let g : y ≡ v = cc in value_ties u y ((Equal-is (value_cmp u y)).0 k) ∙ g)
-        | inr c ↦ inr (args-among e xs vs r a c v q)
-      ])
-    ]) refl
-  ]) refl
-]) refl h
+place-bound : (w : World) (e : Assignment) (f : ℕ) (xs : List Arg) (x : Arg) →
+    same_value (place_value w f (arg_values e xs)) (arg_value e x) ≡ true → (a : Arg) → Among a (x ∷ xs) → (v : Value) → arg_value e a ≡
+    Some v → Among v (values_in w)
+place-bound w e f xs x h a m v q = (elim (arg_values e xs) as (λ o. arg_values e xs ≡ o → same_value (place_value w f o) (arg_value e x) ≡
+    true → Among v (values_in w)) [
+      | None ↦ λ r k. absurd (true≢false (sym k))
+      | Some vs ↦ λ r. (elim (value_at w (f, vs)) as (λ o. value_at w (f, vs) ≡ o → same_value o (arg_value e x) ≡ true →
+          Among v (values_in w)) [
+            | None ↦ λ n k. absurd (true≢false (sym k))
+            | Some u ↦ λ n. (elim (arg_value e x) as (λ o. arg_value e x ≡ o → same_value (Some u) o ≡ true → Among v (values_in w)) [
+              | None ↦ λ z k. absurd (true≢false (sym k))
+              | Some y ↦ λ z k. place-values w (f, vs) u n v (elim m [
+                | inl c ↦ inl (let d : Some y ≡ Some v = sym z ∙ (ap (arg_value e) c ∙ q) in let g : y ≡ v = cc in
+                    value_ties u y ((Equal-is (value_cmp u y)).0 k) ∙ g)
+                | inr c ↦ inr (args-among e xs vs r a c v q)
+              ])
+            ]) refl
+          ]) refl
+    ]) refl h
 
 in_one : (s : Situation) (v : Value) → AtLeastOne (λ w. Among v (values_in w)) (worlds_of s) → Among v (values_of (worlds_of s))
 in_one s v h = (Among-values_of (worlds_of s) v).1 ((One-flat (λ y. y ≡ v) values_in (worlds_of s)).1 h)
 
-bound-values : (s : Situation) (e : Assignment) (b : Bound) → bound_true s e b ≡ true → (a : Arg) → Among a (args_of b) → (v : Value) → arg_value e a ≡ Some v → Among v (values_of (worlds_of s))
+bound-values : (s : Situation) (e : Assignment) (b : Bound) → bound_true s e b ≡ true → (a : Arg) → Among a (args_of b) → (v : Value) →
+    arg_value e a ≡ Some v → Among v (values_of (worlds_of s))
 unfolding bound_true
 bound-values s e (bound.Fact p xs) h a m v q = in_one s v (inl (fact-bound s.world e p xs h a m v q))
 bound-values s e (bound.Place f xs x) h a m v q = in_one s v (inl (place-bound s.world e f xs x h a m v q))
@@ -161,7 +182,8 @@ tuple-values [] (v ∷ t) e P n d h = absurd (omega arith)
 tuple-values (s ∷ ss) [] e P n d h = absurd (omega arith)
 tuple-values (s ∷ ss) (v ∷ t) e P n d h = (
   h s (inl refl) v (ap (λ b. cond b (Some v) (bind ss t e s.slot)) (eq-eqb s.slot s.slot refl)),
-  tuple-values ss t e P (omega arith) d.1 (λ u m x q. h u (inr m) x (ap (λ b. cond b (Some v) (bind ss t e u.slot)) (ne_eqb u.slot s.slot (apart ss d.0 u m)) ∙ q)),
+  tuple-values ss t e P (omega arith) d.1 (λ u m x q. h u (inr m) x (ap (λ b. cond b (Some v) (bind ss t e u.slot))
+      (ne_eqb u.slot s.slot (apart ss d.0 u m)) ∙ q)),
 )
   where
     apart : (us : List Var) → Each (λ u. u.slot ≡ s.slot → ⊥) us → (u : Var) → Among u us → u.slot ≡ s.slot → ⊥
@@ -175,10 +197,11 @@ occurs-of (u ∷ us) b o s m = elim m [ inl e ↦ subst (λ z. stands_in z b ≡
 -- where a test holds of one of the list, some item passes it
 one-of : (s : Var) (xs : List Arg) → list_any (is_that_variable s) xs ≡ true → AtLeastOne (λ a. is_that_variable s a ≡ true) xs
 one-of s [] h = absurd (true≢false (sym h))
-one-of s (x ∷ xs) h = (elim (is_that_variable s x) as (λ b. is_that_variable s x ≡ b → (b || list_any (is_that_variable s) xs) ≡ true → is_that_variable s x ≡ true ⊎ AtLeastOne (λ a. is_that_variable s a ≡ true) xs) [
-  | true ↦ λ q k. inl q
-  | false ↦ λ q k. inr (one-of s xs k)
-]) refl h
+one-of s (x ∷ xs) h = (elim (is_that_variable s x) as (λ b. is_that_variable s x ≡ b → (b || list_any (is_that_variable s) xs) ≡ true →
+    is_that_variable s x ≡ true ⊎ AtLeastOne (λ a. is_that_variable s a ≡ true) xs) [
+      | true ↦ λ q k. inl q
+      | false ↦ λ q k. inr (one-of s xs k)
+    ]) refl h
 
 -- THE TUPLES OF A BOUND are exactly the tuples, of any values, that make it true
 pub all-tuples : (s : Situation) (e : Assignment) (ss : List Var) (b : Bound) → DifferInSlot ss → OccurIn ss b → (t : List Value)
@@ -189,7 +212,8 @@ all-tuples s e ss b d o t = (
     (
       h.0,
       tuple-values ss t e (λ v. Among v (values_of (worlds_of s))) h.0 d
-          (λ u m v q. let n = one_out (λ a. is_that_variable u a ≡ true) (args_of b) (one-of u (args_of b) (occurs-of ss b o u m)) in bound-values s (bind ss t e) b h.1 n.0 n.1.0 v (names-value (bind ss t e) u n.0 n.1.1 v q)),
+          (λ u m v q. let n = one_out (λ a. is_that_variable u a ≡ true) (args_of b) (one-of u (args_of b) (occurs-of ss b o u m)) in
+          bound-values s (bind ss t e) b h.1 n.0 n.1.0 v (names-value (bind ss t e) u n.0 n.1.1 v q)),
     ),
     h.1,
   ),

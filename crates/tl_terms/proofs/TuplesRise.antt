@@ -1,5 +1,6 @@
 -- The tuples of a bound rise strictly in lexicographic order.
-use Rattle.std.proofs.Common.{◌≡◌, ℕ, zero, suc, List, [], ◌∷◌, ◌++◌, map, flat_map, filter, length, Bool, true, false, cond, ◌&&◌, Ordering, Less, Equal, Greater, refl, ap, ◌∙◌}
+use Rattle.std.proofs.Common.{◌≡◌, ℕ, zero, suc, List, [], ◌∷◌, ◌++◌, map, flat_map, filter, length, Bool, true, false, cond, ◌&&◌}
+use Rattle.std.proofs.Common.{Ordering, Less, Equal, Greater, refl, ap, ◌∙◌}
 use lib.Dec.{T}
 use Rattle.std.specs.FinMap as dict
 use Rattle.std.specs.Ordering.{ordering_then, is_lt}
@@ -19,11 +20,13 @@ use Rattle.tl_syntax.specs.declared.bound.Bound.{Bound}
 module _ {A : Type 0} (R : A → A → Ordering) where
   Each-filter : (P : A → Type 0) (p : A → Bool) (xs : List A) → Each P xs → Each P (filter p xs)
   Each-filter P p [] h = tt
-  Each-filter P p (x ∷ xs) h = (elim (p x) as (λ b. Each P (cond b (x ∷ filter p xs) (filter p xs))) [ true ↦ (h.0, Each-filter P p xs h.1) | false ↦ Each-filter P p xs h.1 ])
+  Each-filter P p (x ∷ xs) h = (elim (p x) as (λ b. Each P (cond b (x ∷ filter p xs) (filter p xs)))
+      [ true ↦ (h.0, Each-filter P p xs h.1) | false ↦ Each-filter P p xs h.1 ])
 
   Rises-filter : (p : A → Bool) (xs : List A) → Rises R xs → Rises R (filter p xs)
   Rises-filter p [] h = tt
-  Rises-filter p (x ∷ xs) h = (elim (p x) as (λ b. Rises R (cond b (x ∷ filter p xs) (filter p xs))) [ true ↦ (Each-filter (λ y. R x y ≡ Less) p xs h.0, Rises-filter p xs h.1) | false ↦ Rises-filter p xs h.1 ])
+  Rises-filter p (x ∷ xs) h = (elim (p x) as (λ b. Rises R (cond b (x ∷ filter p xs) (filter p xs)))
+      [ true ↦ (Each-filter (λ y. R x y ≡ Less) p xs h.0, Rises-filter p xs h.1) | false ↦ Rises-filter p xs h.1 ])
 
   Each-app : (P : A → Type 0) (xs ys : List A) → Each P xs → Each P ys → Each P (xs ++ ys)
   Each-app P [] ys h k = k
@@ -44,17 +47,22 @@ heads v (u ∷ us) h = (after us h.0, heads v us h.1)
     after [] k = tt
     after (w ∷ ws) k = (ap (λ r. ordering_then r (less u w)) (tied_itself value_total v) ∙ k.0, after ws k.1)
 
-all_after : (v w : Value) (u : List Value) (us : List (List Value)) → value_cmp v w ≡ Less → Each (λ y. less (v ∷ u) y ≡ Less) (map (λ x. w ∷ x) us)
+all_after : (v w : Value) (u : List Value) (us : List (List Value)) → value_cmp v w ≡ Less →
+    Each (λ y. less (v ∷ u) y ≡ Less) (map (λ x. w ∷ x) us)
 all_after v w u [] h = tt
 all_after v w u (x ∷ us) h = (ap (λ r. ordering_then r (less u x)) h, all_after v w u us h)
 
-flat_after : (v : Value) (u : List Value) (vs : List Value) (us : List (List Value)) → Each (λ w. value_cmp v w ≡ Less) vs → Each (λ y. less (v ∷ u) y ≡ Less) (flat_map (λ w. map (λ x. w ∷ x) us) vs)
+flat_after : (v : Value) (u : List Value) (vs : List Value) (us : List (List Value)) → Each (λ w. value_cmp v w ≡ Less) vs →
+    Each (λ y. less (v ∷ u) y ≡ Less) (flat_map (λ w. map (λ x. w ∷ x) us) vs)
 flat_after v u [] us h = tt
-flat_after v u (w ∷ vs) us h = Each-app less (λ y. less (v ∷ u) y ≡ Less) (map (λ x. w ∷ x) us) (flat_map (λ z. map (λ x. z ∷ x) us) vs) (all_after v w u us h.0) (flat_after v u vs us h.1)
+flat_after v u (w ∷ vs) us h = Each-app less (λ y. less (v ∷ u) y ≡ Less) (map (λ x. w ∷ x) us) (flat_map (λ z. map (λ x. z ∷ x) us) vs)
+    (all_after v w u us h.0) (flat_after v u vs us h.1)
 
-products : (vs : List Value) (us : List (List Value)) → Rises value_cmp vs → Rises less us → Rises less (flat_map (λ v. map (λ u. v ∷ u) us) vs)
+products : (vs : List Value) (us : List (List Value)) → Rises value_cmp vs → Rises less us →
+    Rises less (flat_map (λ v. map (λ u. v ∷ u) us) vs)
 products [] us h k = tt
-products (v ∷ vs) us h k = Rises-append less (map (λ u. v ∷ u) us) (flat_map (λ w. map (λ u. w ∷ u) us) vs) (heads v us k) (products vs us h.1 k) (each us)
+products (v ∷ vs) us h k = Rises-append less (map (λ u. v ∷ u) us) (flat_map (λ w. map (λ u. w ∷ u) us) vs) (heads v us k)
+    (products vs us h.1 k) (each us)
   where
     each : (ws : List (List Value)) → Each (λ x. Each (λ y. less x y ≡ Less) (flat_map (λ w. map (λ u. w ∷ u) us) vs)) (map (λ u. v ∷ u) ws)
     each [] = tt
@@ -100,4 +108,5 @@ pub tuples-rise : (s : Situation) (e : Assignment) (ss : List Var) (b : Bound) �
 unfolding tuples
 tuples-rise s e ss b =
     let vs : List Value = values_of (s.world ∷ s.goal ∷ s.avoid ∷ []) in
-    Rises-filter less (λ t. bound_true s (bind ss t e) b) (tuples_of vs (length ss)) (tuples_of-rises vs (length ss) (values-rise (s.world ∷ s.goal ∷ s.avoid ∷ [])))
+    Rises-filter less (λ t. bound_true s (bind ss t e) b) (tuples_of vs (length ss))
+    (tuples_of-rises vs (length ss) (values-rise (s.world ∷ s.goal ∷ s.avoid ∷ [])))

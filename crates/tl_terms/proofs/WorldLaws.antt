@@ -8,4 +8,5 @@ use Rattle.tl_syntax.proofs.TotalOrders.{key_total, key_ties}
 
 -- two worlds with the same facts and the same values of places are one
 pub same_world : (v w : World) → ((k : Key) → has_fact v k ≡ has_fact w k) → ((k : Key) → value_at v k ≡ value_at w k) → v ≡ w
-same_world v w p q = let a = set.same_set key_total key_ties v.facts w.facts p in let b = dict.same_map key_total key_ties v.places w.places q in λ i. record { facts = a i; places = b i }
+same_world v w p q = let a = set.same_set key_total key_ties v.facts w.facts p in let b =
+    dict.same_map key_total key_ties v.places w.places q in λ i. record { facts = a i; places = b i }

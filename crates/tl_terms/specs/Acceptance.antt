@@ -35,7 +35,8 @@ is_value None u = false
 -- every fact of the goal is in the world, every place of the goal has its value there, and no fact
 -- to avoid is in the world
 unfoldable pub meets_goal : World → World → World → Bool
-meets_goal w goal avoid = list_all (has_fact w) (set.items goal.facts) && (list_all (λ k. is_value (value_at w k.0) k.1) (dict.entries goal.places) && list_all (λ k. not (has_fact w k)) (set.items avoid.facts))
+meets_goal w goal avoid = list_all (has_fact w) (set.items goal.facts) &&
+    (list_all (λ k. is_value (value_at w k.0) k.1) (dict.entries goal.places) && list_all (λ k. not (has_fact w k)) (set.items avoid.facts))
 
 -- the last of a world and those after it
 abbrev pub last_of : World → List World → World

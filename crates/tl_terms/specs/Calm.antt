@@ -29,4 +29,5 @@ pub record IsCalmAfter (p : PlainProblem) (n : ℕ) (path : List Action) (from :
 
 -- nothing past range is looked at after any reached path
 abbrev pub IsCalm : PlainProblem → ℕ → Type 0
-IsCalm p n = (path : List Action) (from : World) (after : List World) → IsReached p n path → states p path ≡ Some (from ∷ after) → IsCalmAfter p n path from after
+IsCalm p n = (path : List Action) (from : World) (after : List World) → IsReached p n path → states p path ≡ Some (from ∷ after) →
+    IsCalmAfter p n path from after

@@ -28,7 +28,8 @@ situation_under p w ts = record { world = w; goal = p.goal; avoid = p.avoid; tab
 -- name means the body one level lower, and at level 1 false
 unfoldable pub true_at_level : PlainProblem → World → Tests → PlainDefinition → ℕ → List Value → Bool
 true_at_level p w earlier d zero vs = false
-true_at_level p w earlier d (suc k) vs = state_true (situation_under p w (earlier ++ true_at_level p w earlier d k ∷ [])) (bind d.params vs no_values) d.body
+true_at_level p w earlier d (suc k) vs = state_true (situation_under p w (earlier ++ true_at_level p w earlier d k ∷ []))
+    (bind d.params vs no_values) d.body
 
 -- one more definition, at the level of its number of levels
 abbrev pub with_tests_of : PlainProblem → World → Tests → PlainDefinition → Tests

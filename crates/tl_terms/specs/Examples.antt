@@ -1,5 +1,6 @@
 -- Worked examples of the definitions.
-use Rattle.std.proofs.Common.{◌≡◌, ◌≢◌, ◌^◌, ◌-◌, ◌+◌, ◌%◌, slice_index_or, ℕ, suc, List, [], ◌∷◌, true, false, cond, Some, None, true≢false, Less, refl, sym, ap, ◌∙◌}
+use Rattle.std.proofs.Common.{◌≡◌, ◌≢◌, ◌^◌, ◌-◌, ◌+◌, ◌%◌, slice_index_or, ℕ, suc, List, [], ◌∷◌, true, false, cond, Some, None}
+use Rattle.std.proofs.Common.{true≢false, Less, refl, sym, ap, ◌∙◌}
 use Rattle.std.specs.Prelude.{pos}
 use Rattle.std.specs.List.{list_any}
 use Rattle.std.proofs.Common.{arith as numbers}
@@ -19,13 +20,16 @@ use Rattle.tl_terms.specs.Problem.{PlainProblem}
 use Rattle.tl_terms.specs.Progression.{progressed}
 use Rattle.tl_terms.specs.Run.{Holds, Run, state_at, Satisfies, SatisfiesAlong}
 use Rattle.tl_syntax.proofs.Same.{formula_discrete}
-use Rattle.tl_terms.specs.Simplification.{is_yes, same_formula, and_parts, or_parts, without_repeats, simplified_and, simplified_or, simplified_not}
+use Rattle.tl_terms.specs.Simplification.{is_yes, same_formula, and_parts, or_parts, without_repeats, simplified_and, simplified_or}
+use Rattle.tl_terms.specs.Simplification.{simplified_not}
 use Rattle.tl_terms.specs.Situation.{Situation}
 use Rattle.tl_terms.specs.Step.{adds, dels, sets, effect_instances, changed, applied, step}
 use Rattle.tl_syntax.specs.Substitution.{substituted_term, substituted}
 use Rattle.tl_terms.specs.Terms.{term_value}
 use Rattle.tl_syntax.proofs.TotalOrders.{key_total}
-use Rattle.tl_syntax.specs.Trees.{TermTree, value, place, no_term, more_terms, FormulaTree, verum, falsum, atom, defined, compare, negation, conjunction, disjunction, next, always, eventually, until, within, during, no_formula, formulas_of_list, arith}
+use Rattle.tl_syntax.specs.Trees.{TermTree, value, place, no_term, more_terms, FormulaTree, verum, falsum, atom, defined, compare, negation}
+use Rattle.tl_syntax.specs.Trees.{conjunction, disjunction, next, always, eventually, until, within, during, no_formula, formulas_of_list}
+use Rattle.tl_syntax.specs.Trees.{arith}
 use Rattle.tl_terms.specs.Truth.{state_true}
 use Rattle.tl_syntax.specs.Keys.{Key, value_cmp, key_cmp}
 use Rattle.tl_terms.specs.World.{World, has_fact, value_at}
@@ -62,11 +66,13 @@ abbrev pub fact : ℕ → FormulaTree
 fact p = atom p no_term
 
 -- what stands in a world
-pub has_fact-world : (facts : List Key) (places : List (Key × Value)) (k : Key) → has_fact (world facts places) k ≡ list_any (eq_by_cmp key_cmp k) facts
+pub has_fact-world : (facts : List Key) (places : List (Key × Value)) (k : Key) → has_fact (world facts places) k ≡
+    list_any (eq_by_cmp key_cmp k) facts
 has_fact-world facts places k = set.contains-from_list key_total facts k
 
 -- a place has there the first value that is listed for it
-pub value_at-world : (facts : List Key) (places : List (Key × Value)) (k : Key) → value_at (world facts places) k ≡ dict.find key_cmp k places
+pub value_at-world : (facts : List Key) (places : List (Key × Value)) (k : Key) → value_at (world facts places) k ≡
+    dict.find key_cmp k places
 value_at-world facts places k = dict.get-from_entries key_total places k
 
 -- ---- terms and comparisons
@@ -113,9 +119,14 @@ different : fact 0 ≢ fact 1
 different e = cc
 
 -- the conjunction of `(and f g)`, `true` and `f` is `(and f g)`
-conjunction_of_parts : simplified_and (conjunction (formulas_of_list (fact 0 ∷ fact 1 ∷ [])) ∷ verum ∷ fact 0 ∷ []) ≡ conjunction (formulas_of_list (fact 0 ∷ fact 1 ∷ []))
+conjunction_of_parts : simplified_and (conjunction (formulas_of_list (fact 0 ∷ fact 1 ∷ [])) ∷ verum ∷ fact 0 ∷ []) ≡
+    conjunction (formulas_of_list (fact 0 ∷ fact 1 ∷ []))
 unfolding simplified_and and_parts without_repeats
-conjunction_of_parts = rw (same-other (fact 0) (fact 1) different, same-other (fact 1) (fact 0) (λ e. different (sym e)), same-itself (fact 0)) refl
+conjunction_of_parts = rw (
+  same-other (fact 0) (fact 1) different,
+  same-other (fact 1) (fact 0) (λ e. different (sym e)),
+  same-itself (fact 0),
+) refl
 
 -- the disjunction of `f` and `true` is `true`
 disjunction_with_true : simplified_or (fact 0 ∷ verum ∷ []) ≡ verum
@@ -159,12 +170,14 @@ only_on n = world ((0, Sym n ∷ []) ∷ []) []
 
 -- `(until (not (on a)) (on b))` in an empty world progresses to itself
 until_waits : progressed (alone nothing) no_values (until (negation (on 0)) (on 1)) ≡ until (negation (on 0)) (on 1)
-unfolding progressed state_true term_value simplified_or simplified_and simplified_not and_parts or_parts without_repeats substituted substituted_term
+unfolding progressed state_true term_value simplified_or simplified_and simplified_not and_parts or_parts without_repeats substituted
+    substituted_term
 until_waits = rw (has_fact-world [] [] (0, Sym 0 ∷ []), has_fact-world [] [] (0, Sym 1 ∷ [])) refl
 
 -- the same where `a` is on and `b` is not progresses to FALSE
 until_fails : progressed (alone (only_on 0)) no_values (until (negation (on 0)) (on 1)) ≡ falsum
-unfolding progressed state_true term_value simplified_or simplified_and simplified_not and_parts or_parts without_repeats substituted substituted_term
+unfolding progressed state_true term_value simplified_or simplified_and simplified_not and_parts or_parts without_repeats substituted
+    substituted_term
 until_fails = rw (has_fact-world ((0, Sym 0 ∷ []) ∷ []) [] (0, Sym 0 ∷ []), has_fact-world ((0, Sym 0 ∷ []) ∷ []) [] (0, Sym 1 ∷ [])) refl
 
 -- `within` one step what is not yet so has to come now
@@ -204,7 +217,8 @@ abbrev two_effects : EffectTree → EffectTree → EffectTrees
 two_effects x y = more_effects x (more_effects y no_effect)
 
 -- a step that deletes and adds one fact is lawful
-deletes_and_adds : (w : World) → step (problem_with (two_effects (del 0 no_term) (add 0 no_term))) w act ≡ Some (changed w (dels 0 (Some []) ∷ adds 0 (Some []) ∷ []))
+deletes_and_adds : (w : World) → step (problem_with (two_effects (del 0 no_term) (add 0 no_term))) w act ≡
+    Some (changed w (dels 0 (Some []) ∷ adds 0 (Some []) ∷ []))
 unfolding step applied effect_instances term_value state_true
 deletes_and_adds w = refl
 
@@ -219,7 +233,8 @@ unfolding step applied effect_instances term_value state_true
 clashes w = refl
 
 -- one value for one place, twice, does not
-sets_twice : (w : World) → step (problem_with (two_effects (assign 0 no_term (integer 1)) (assign 0 no_term (integer 1)))) w act ≡ Some (changed w (sets 0 (Some []) (Some (Int (pos 1))) ∷ sets 0 (Some []) (Some (Int (pos 1))) ∷ []))
+sets_twice : (w : World) → step (problem_with (two_effects (assign 0 no_term (integer 1)) (assign 0 no_term (integer 1)))) w act ≡
+    Some (changed w (sets 0 (Some []) (Some (Int (pos 1))) ∷ sets 0 (Some []) (Some (Int (pos 1))) ∷ []))
 unfolding step applied effect_instances term_value state_true
 sets_twice w = refl
 
@@ -258,14 +273,18 @@ abbrev blinking : Run
 blinking = record { stem = []; first = world ((0, []) ∷ []) []; rest = nothing ∷ [] }
 
 -- the world at a position is by its remainder
-blinking-at : (i : ℕ) → state_at blinking i ≡ slice_index_or (world ((0, []) ∷ []) [] ∷ nothing ∷ []) ((i - 0) % 2) (world ((0, []) ∷ []) [])
+blinking-at : (i : ℕ) → state_at blinking i ≡ slice_index_or (world ((0, []) ∷ []) [] ∷ nothing ∷ []) ((i - 0) % 2)
+    (world ((0, []) ∷ []) [])
 unfolding state_at
-blinking-at i = ap (λ b. cond b (world ((0, []) ∷ []) []) (slice_index_or (world ((0, []) ∷ []) [] ∷ nothing ∷ []) ((i - 0) % 2) (world ((0, []) ∷ []) []))) (le-ltb i 0 (omega numbers))
+blinking-at i = ap (λ b. cond b (world ((0, []) ∷ []) []) (slice_index_or (world ((0, []) ∷ []) [] ∷ nothing ∷ []) ((i - 0) % 2)
+    (world ((0, []) ∷ []) []))) (le-ltb i 0 (omega numbers))
 
 -- what `on` is at a position
-blinking-on : (p : PlainProblem) (i n : ℕ) → (i - 0) % 2 ≡ n → state_true (situation_of p (state_at blinking i)) no_values (fact 0) ≡ has_fact (slice_index_or (world ((0, []) ∷ []) [] ∷ nothing ∷ []) n (world ((0, []) ∷ []) [])) (0, [])
+blinking-on : (p : PlainProblem) (i n : ℕ) → (i - 0) % 2 ≡ n → state_true (situation_of p (state_at blinking i)) no_values (fact 0) ≡
+    has_fact (slice_index_or (world ((0, []) ∷ []) [] ∷ nothing ∷ []) n (world ((0, []) ∷ []) [])) (0, [])
 unfolding situation_of state_true term_value
-blinking-on p i n e = ap (λ w. has_fact w (0, [])) (blinking-at i ∙ ap (λ k. slice_index_or (world ((0, []) ∷ []) [] ∷ nothing ∷ []) k (world ((0, []) ∷ []) [])) e)
+blinking-on p i n e = ap (λ w. has_fact w (0, [])) (blinking-at i ∙ ap
+    (λ k. slice_index_or (world ((0, []) ∷ []) [] ∷ nothing ∷ []) k (world ((0, []) ∷ []) [])) e)
 
 -- there it is always so that it is eventually on
 always_eventually : (p : PlainProblem) → Satisfies p blinking 0 (always (eventually (fact 0)))
@@ -275,7 +294,8 @@ always_eventually p = λ j _. (j + j, omega numbers, blinking-on p (j + j) 0 (om
 -- and it is not so that it is eventually always on
 not_eventually_always : (p : PlainProblem) → Satisfies p blinking 0 (eventually (always (fact 0))) → ⊥
 unfolding SatisfiesAlong Holds
-not_eventually_always p h = true≢false (sym (h.2 (suc (h.0 + h.0)) (omega numbers)) ∙ (blinking-on p (suc (h.0 + h.0)) 1 (omega numbers) ∙ has_fact-world [] [] (0, [])))
+not_eventually_always p h = true≢false (sym (h.2 (suc (h.0 + h.0)) (omega numbers)) ∙
+    (blinking-on p (suc (h.0 + h.0)) 1 (omega numbers) ∙ has_fact-world [] [] (0, [])))
 
 -- ---- orders and ranges
 
@@ -302,12 +322,14 @@ abbrev the_sum : Operation
 the_sum = record { at = 7; op = Plus; left = pos 2; right = pos 3 }
 
 -- behind a false part nothing is looked at
-stops_at_false : (d : LookedTable) (s : Situation) (e : Assignment) → looked_in_state d s e (conjunction (formulas_of_list (falsum ∷ small_sum ∷ []))) ≡ []
+stops_at_false : (d : LookedTable) (s : Situation) (e : Assignment) → looked_in_state d s e
+    (conjunction (formulas_of_list (falsum ∷ small_sum ∷ []))) ≡ []
 unfolding looked_in_state state_true
 stops_at_false d s e = refl
 
 -- behind a true part the next one is looked at
-goes_on_after_true : (d : LookedTable) (s : Situation) (e : Assignment) → looked_in_state d s e (conjunction (formulas_of_list (verum ∷ small_sum ∷ []))) ≡ the_sum ∷ []
+goes_on_after_true : (d : LookedTable) (s : Situation) (e : Assignment) →
+    looked_in_state d s e (conjunction (formulas_of_list (verum ∷ small_sum ∷ []))) ≡ the_sum ∷ []
 unfolding looked_in_state state_true looked_in_term term_value
 goes_on_after_true d s e = refl
 

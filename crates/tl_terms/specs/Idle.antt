@@ -1,7 +1,9 @@
 -- Truth where one world is repeated for ever.
 use Rattle.std.specs.Prelude.{Bool, true, false, not, ◌&&◌, ◌||◌}
 use Rattle.std.specs.List.{list_any, list_all}
-use Rattle.tl_syntax.specs.Trees.{FormulaTree, FormulaTrees, verum, falsum, atom, defined, compare, goal_fact, goal_place, goal_not, negation, conjunction, disjunction, for_all, for_some, next, always, eventually, until, within, during, no_formula, more_formulas}
+use Rattle.tl_syntax.specs.Trees.{FormulaTree, FormulaTrees, verum, falsum, atom, defined, compare, goal_fact, goal_place, goal_not}
+use Rattle.tl_syntax.specs.Trees.{negation, conjunction, disjunction, for_all, for_some, next, always, eventually, until, within, during}
+use Rattle.tl_syntax.specs.Trees.{no_formula, more_formulas}
 use Rattle.tl_terms.specs.Situation.{Situation}
 use Rattle.tl_syntax.specs.Assignment.{Assignment, bind}
 use Rattle.tl_terms.specs.Bounds.{tuples}

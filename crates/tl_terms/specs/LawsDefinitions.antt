@@ -17,13 +17,22 @@ own_or_outer n own outer m vs = cond (m == n) (own vs) (outer m vs)
 -- level k - 1, and false where k is 1
 unfoldable pub body_at_level : PlainProblem → World → ℕ → PlainDefinition → ℕ → List Value → Bool
 body_at_level p w n d zero vs = false
-body_at_level p w n d (suc k) vs = state_true (record { world = w; goal = p.goal; avoid = p.avoid; table = own_or_outer n (body_at_level p w n d k) (situation_of p w).table }) (bind d.params vs no_values) d.body
+body_at_level p w n d (suc k) vs = state_true (record {
+  world = w;
+  goal = p.goal;
+  avoid = p.avoid;
+  table =
+      own_or_outer n (body_at_level p w n d k) (situation_of p w).table;
+}) (bind d.params vs no_values) d.body
 
 -- a definition whose body names no later one is true of the values where its body is, at the level
 -- of its number of levels
 abbrev pub DefinedIsItsBody : Type 0
-DefinedIsItsBody = (p : PlainProblem) (w : World) (n : ℕ) (d : PlainDefinition) (vs : List Value) → slice_get p.definitions n ≡ Some d → IsNamingBelow (suc n) d.body → (situation_of p w).table n vs ≡ body_at_level p w n d d.levels vs
+DefinedIsItsBody = (p : PlainProblem) (w : World) (n : ℕ) (d : PlainDefinition) (vs : List Value) → slice_get p.definitions n ≡ Some d →
+    IsNamingBelow (suc n) d.body → (situation_of p w).table n vs ≡ body_at_level p w n d d.levels vs
 
 -- a definition whose body names only earlier ones is true of the values where its body is
 abbrev pub PlainlyDefinedIsItsBody : Type 0
-PlainlyDefinedIsItsBody = (p : PlainProblem) (w : World) (n : ℕ) (d : PlainDefinition) (vs : List Value) → slice_get p.definitions n ≡ Some d → IsNamingBelow n d.body → 0 < d.levels → (situation_of p w).table n vs ≡ state_true (situation_of p w) (bind d.params vs no_values) d.body
+PlainlyDefinedIsItsBody = (p : PlainProblem) (w : World) (n : ℕ) (d : PlainDefinition) (vs : List Value) → slice_get p.definitions n ≡
+    Some d → IsNamingBelow n d.body → 0 < d.levels → (situation_of p w).table n vs ≡
+    state_true (situation_of p w) (bind d.params vs no_values) d.body

@@ -23,4 +23,5 @@ IdleWordsLaw = (p : PlainProblem) (w : World) (i n : ℕ) (f g : FormulaTree) �
 
 -- the idling check is truth where one world is repeated for ever
 abbrev pub IdlingCheckIsTruth : Type 0
-IdlingCheckIsTruth = (p : PlainProblem) (w : World) (i : ℕ) (f : FormulaTree) → Satisfies p (idle_run w) i f ↔ IsTrue (idle_true (situation_of p w) no_values f)
+IdlingCheckIsTruth = (p : PlainProblem) (w : World) (i : ℕ) (f : FormulaTree) → Satisfies p (idle_run w) i f ↔
+    IsTrue (idle_true (situation_of p w) no_values f)

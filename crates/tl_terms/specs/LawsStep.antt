@@ -18,7 +18,8 @@ use Rattle.tl_terms.specs.Step.{EffectInstance, all_instances, is_defined, added
 pub record IsChange (w : World) (cs : List EffectInstance) (v : World) : Type 0 where
   pub all_defined : Each (λ c. IsTrue (is_defined c)) cs
   pub one_value : (k : Key) (a b : Value) → Among (k, a) (flat_map given cs) → Among (k, b) (flat_map given cs) → a ≡ b
-  pub facts : (k : Key) → IsTrue (has_fact v k) ↔ (Among k (flat_map added cs) ⊎ ((Among k (flat_map deleted cs) → ⊥) × IsTrue (has_fact w k)))
+  pub facts : (k : Key) → IsTrue (has_fact v k) ↔ (Among k (flat_map added cs) ⊎
+      ((Among k (flat_map deleted cs) → ⊥) × IsTrue (has_fact w k)))
   pub set_places : (k : Key) (a : Value) → Among (k, a) (flat_map given cs) → value_at v k ≡ Some a
   pub other_places : (k : Key) → ((a : Value) → Among (k, a) (flat_map given cs) → ⊥) → value_at v k ≡ value_at w k
 
@@ -42,4 +43,5 @@ StepByItsConditions = (p : PlainProblem) (w : World) (a : Action) (v : World) �
 
 -- where none clash, the next world depends on the set of instances alone
 abbrev pub OrderOfInstances : Type 0
-OrderOfInstances = (w : World) (cs ds : List EffectInstance) → IsTrue (no_clash (flat_map given cs)) → ((c : EffectInstance) → Among c cs ↔ Among c ds) → changed w cs ≡ changed w ds
+OrderOfInstances = (w : World) (cs ds : List EffectInstance) → IsTrue (no_clash (flat_map given cs)) →
+    ((c : EffectInstance) → Among c cs ↔ Among c ds) → changed w cs ≡ changed w ds

@@ -23,19 +23,25 @@ instance ss f t = substituted (bind ss t no_values) f
 
 -- a `forall` is true where each instance is, and an `exists` where one is
 pub record QuantifiersAreTrueByInstances (s : Situation) (ss : List Var) (b : Bound) (f : FormulaTree) : Type 0 where
-  pub of_forall : state_true s no_values (for_all ss b f) ≡ list_all (λ t. state_true s no_values (instance ss f t)) (tuples s no_values ss b)
-  pub of_exists : state_true s no_values (for_some ss b f) ≡ list_any (λ t. state_true s no_values (instance ss f t)) (tuples s no_values ss b)
+  pub of_forall : state_true s no_values (for_all ss b f) ≡ list_all (λ t. state_true s no_values (instance ss f t))
+      (tuples s no_values ss b)
+  pub of_exists : state_true s no_values (for_some ss b f) ≡ list_any (λ t. state_true s no_values (instance ss f t))
+      (tuples s no_values ss b)
 
 -- a `forall` holds at a position where each instance does, and an `exists` where one does
 pub record QuantifiersHoldByInstances (p : PlainProblem) (r : Run) (i : ℕ) (ss : List Var) (b : Bound) (f : FormulaTree) : Type 0 where
-  pub of_forall : Satisfies p r i (for_all ss b f) ↔ Each (λ t. Satisfies p r i (instance ss f t)) (tuples (situation_of p (state_at r i)) no_values ss b)
-  pub of_exists : Satisfies p r i (for_some ss b f) ↔ AtLeastOne (λ t. Satisfies p r i (instance ss f t)) (tuples (situation_of p (state_at r i)) no_values ss b)
+  pub of_forall : Satisfies p r i (for_all ss b f) ↔ Each (λ t. Satisfies p r i (instance ss f t))
+      (tuples (situation_of p (state_at r i)) no_values ss b)
+  pub of_exists : Satisfies p r i (for_some ss b f) ↔ AtLeastOne (λ t. Satisfies p r i (instance ss f t))
+      (tuples (situation_of p (state_at r i)) no_values ss b)
 
 -- a `forall` progresses to the conjunction of its progressed instances, and an `exists` to the
 -- disjunction, in tuple order
 pub record QuantifiersProgressByInstances (s : Situation) (ss : List Var) (b : Bound) (f : FormulaTree) : Type 0 where
-  pub of_forall : progressed s no_values (for_all ss b f) ≡ simplified_and (map (λ t. progressed s no_values (instance ss f t)) (tuples s no_values ss b))
-  pub of_exists : progressed s no_values (for_some ss b f) ≡ simplified_or (map (λ t. progressed s no_values (instance ss f t)) (tuples s no_values ss b))
+  pub of_forall : progressed s no_values (for_all ss b f) ≡ simplified_and
+      (map (λ t. progressed s no_values (instance ss f t)) (tuples s no_values ss b))
+  pub of_exists : progressed s no_values (for_some ss b f) ≡ simplified_or
+      (map (λ t. progressed s no_values (instance ss f t)) (tuples s no_values ss b))
 
 -- instances are the substituted formulas, for truth
 abbrev pub TruthByInstances : Type 0
@@ -43,7 +49,8 @@ TruthByInstances = (s : Situation) (ss : List Var) (b : Bound) (f : FormulaTree)
 
 -- instances are the substituted formulas, for satisfaction
 abbrev pub SatisfactionByInstances : Type 0
-SatisfactionByInstances = (p : PlainProblem) (r : Run) (i : ℕ) (ss : List Var) (b : Bound) (f : FormulaTree) → QuantifiersHoldByInstances p r i ss b f
+SatisfactionByInstances = (p : PlainProblem) (r : Run) (i : ℕ) (ss : List Var) (b : Bound) (f : FormulaTree) →
+    QuantifiersHoldByInstances p r i ss b f
 
 -- instances are the substituted formulas, for progression
 abbrev pub ProgressionByInstances : Type 0

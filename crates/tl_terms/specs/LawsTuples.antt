@@ -13,7 +13,8 @@ use Rattle.tl_syntax.specs.BoundVariables.{OccurIn, DifferInSlot}
 
 -- the tuples of a bound in which the variables stand are those that make it true, of any values
 abbrev pub TuplesAreThoseOfTheBound : Type 0
-TuplesAreThoseOfTheBound = (s : Situation) (e : Assignment) (ss : List Var) (b : Bound) → DifferInSlot ss → OccurIn ss b → (t : List Value) → Among t (tuples s e ss b) ↔ ((length t ≡ length ss) × IsTrue (bound_true s (bind ss t e) b))
+TuplesAreThoseOfTheBound = (s : Situation) (e : Assignment) (ss : List Var) (b : Bound) → DifferInSlot ss → OccurIn ss b →
+    (t : List Value) → Among t (tuples s e ss b) ↔ ((length t ≡ length ss) × IsTrue (bound_true s (bind ss t e) b))
 
 -- they rise in lexicographic value order, so each comes once
 abbrev pub TuplesRise : Type 0

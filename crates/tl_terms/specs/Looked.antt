@@ -1,5 +1,6 @@
 -- The operations that are looked at, from left to right until the truth is decided.
-use Rattle.std.specs.Prelude.{ℕ, zero, suc, List, [], ◌∷◌, ◌++◌, map, flat_map, length, take, slice_get, Bool, true, false, cond, not, ◌&&◌, ◌==◌, Option, Some, None, is_some}
+use Rattle.std.specs.Prelude.{ℕ, zero, suc, List, [], ◌∷◌, ◌++◌, map, flat_map, length, take, slice_get, Bool, true, false, cond, not, ◌&&◌}
+use Rattle.std.specs.Prelude.{◌==◌, Option, Some, None, is_some}
 use Rattle.std.specs.List.{list_all}
 use Rattle.tl_syntax.specs.declared.value.Value.{Value}
 use Rattle.tl_syntax.specs.declared.value.Value.TheVariants.{Int}
@@ -7,7 +8,9 @@ use Rattle.tl_syntax.specs.declared.value.Op.{Op}
 use Rattle.tl_syntax.specs.declared.value.Cmp.{Cmp}
 use Rattle.tl_syntax.specs.declared.value.Cmp.TheVariants as cmp
 use Rattle.tl_syntax.specs.declared.action.Action.{Action}
-use Rattle.tl_syntax.specs.Trees.{TermTree, TermTrees, variable, value, place, arith, no_term, more_terms, FormulaTree, FormulaTrees, verum, falsum, atom, defined, compare, goal_fact, goal_place, goal_not, negation, conjunction, disjunction, for_all, for_some, next, always, eventually, until, within, during, no_formula, more_formulas}
+use Rattle.tl_syntax.specs.Trees.{TermTree, TermTrees, variable, value, place, arith, no_term, more_terms, FormulaTree, FormulaTrees, verum}
+use Rattle.tl_syntax.specs.Trees.{falsum, atom, defined, compare, goal_fact, goal_place, goal_not, negation, conjunction, disjunction}
+use Rattle.tl_syntax.specs.Trees.{for_all, for_some, next, always, eventually, until, within, during, no_formula, more_formulas}
 use Rattle.tl_syntax.specs.Effects.{EffectTree, EffectTrees, add, del, assign, when, each, no_effect, more_effects}
 use Rattle.tl_terms.specs.Problem.{PlainDefinition, PlainOperator, PlainProblem}
 use Rattle.tl_terms.specs.World.{World}
@@ -40,7 +43,8 @@ unfoldable mutual
   looked_in_term w e (variable s) = []
   looked_in_term w e (value v) = []
   looked_in_term w e (place f ts) = looked_in_terms w e ts
-  looked_in_term w e (arith op s t at) = followed_if (is_defined_integer (term_value w e s)) (looked_in_term w e s) (looked_in_term w e t ++ operation_on at op (term_value w e s) (term_value w e t))
+  looked_in_term w e (arith op s t at) = followed_if (is_defined_integer (term_value w e s)) (looked_in_term w e s)
+      (looked_in_term w e t ++ operation_on at op (term_value w e s) (term_value w e t))
 
   pub looked_in_terms : World → Assignment → TermTrees → List Operation
   looked_in_terms w e no_term = []
@@ -72,15 +76,18 @@ unfoldable mutual
   looked_in_state d s e falsum = []
   looked_in_state d s e (atom p ts) = looked_in_terms s.world e ts
   looked_in_state d s e (defined n ts) = looked_in_terms s.world e ts ++ looked_in_body d n (term_values s.world e ts)
-  looked_in_state d s e (compare c x y) = followed_if (leaves_open c (term_value s.world e x)) (looked_in_term s.world e x) (looked_in_term s.world e y)
+  looked_in_state d s e (compare c x y) = followed_if (leaves_open c (term_value s.world e x)) (looked_in_term s.world e x)
+      (looked_in_term s.world e y)
   looked_in_state d s e (goal_fact p xs) = []
   looked_in_state d s e (goal_place f xs x) = []
   looked_in_state d s e (goal_not p xs) = []
   looked_in_state d s e (negation f) = looked_in_state d s e f
   looked_in_state d s e (conjunction fs) = looked_in_and d s e fs
   looked_in_state d s e (disjunction fs) = looked_in_or d s e fs
-  looked_in_state d s e (for_all ss b f) = looked_in_turn (λ t. looked_in_state d s (bind ss t e) f) (λ t. state_true s (bind ss t e) f) (tuples s e ss b)
-  looked_in_state d s e (for_some ss b f) = looked_in_turn (λ t. looked_in_state d s (bind ss t e) f) (λ t. not (state_true s (bind ss t e) f)) (tuples s e ss b)
+  looked_in_state d s e (for_all ss b f) = looked_in_turn (λ t. looked_in_state d s (bind ss t e) f) (λ t. state_true s (bind ss t e) f)
+      (tuples s e ss b)
+  looked_in_state d s e (for_some ss b f) = looked_in_turn (λ t. looked_in_state d s (bind ss t e) f)
+      (λ t. not (state_true s (bind ss t e) f)) (tuples s e ss b)
   looked_in_state d s e (next f) = []
   looked_in_state d s e (always f) = []
   looked_in_state d s e (eventually f) = []
@@ -113,7 +120,8 @@ looked_table ls n vs = looks_asked (slice_get ls n) vs
 -- used up, nothing
 unfoldable pub looked_at_level : PlainProblem → World → Tests → Looks → PlainDefinition → ℕ → List Value → List Operation
 looked_at_level p w ts ls d zero vs = []
-looked_at_level p w ts ls d (suc k) vs = looked_in_state (looked_table (ls ++ looked_at_level p w ts ls d k ∷ [])) (situation_under p w (ts ++ true_at_level p w ts d k ∷ [])) (bind d.params vs no_values) d.body
+looked_at_level p w ts ls d (suc k) vs = looked_in_state (looked_table (ls ++ looked_at_level p w ts ls d k ∷ []))
+    (situation_under p w (ts ++ true_at_level p w ts d k ∷ [])) (bind d.params vs no_values) d.body
 
 -- the looks of further definitions, each over those before it
 unfoldable pub looks_over : PlainProblem → World → Tests → Looks → List PlainDefinition → Looks
@@ -139,8 +147,10 @@ unfoldable mutual
   looked_in_basics n d bs s e (negation f) = looked_in_basics n d bs s e f
   looked_in_basics n d bs s e (conjunction fs) = looked_in_parts n d bs s e fs
   looked_in_basics n d bs s e (disjunction fs) = looked_in_parts n d bs s e fs
-  looked_in_basics n d bs s e (for_all ss b f) = flat_map (λ t. looked_in_basics n d bs s (bind ss t e) f) (flat_map (λ q. tuples q e ss b) bs)
-  looked_in_basics n d bs s e (for_some ss b f) = flat_map (λ t. looked_in_basics n d bs s (bind ss t e) f) (flat_map (λ q. tuples q e ss b) bs)
+  looked_in_basics n d bs s e (for_all ss b f) = flat_map (λ t. looked_in_basics n d bs s (bind ss t e) f)
+      (flat_map (λ q. tuples q e ss b) bs)
+  looked_in_basics n d bs s e (for_some ss b f) = flat_map (λ t. looked_in_basics n d bs s (bind ss t e) f)
+      (flat_map (λ q. tuples q e ss b) bs)
   looked_in_basics n d bs s e (next f) = cond n (looked_in_basics n d bs s e f) []
   looked_in_basics n d bs s e (always f) = looked_in_basics n d bs s e f
   looked_in_basics n d bs s e (eventually f) = looked_in_basics n d bs s e f
@@ -195,7 +205,8 @@ unfoldable pub looked_by_operator : PlainProblem → World → PlainOperator →
 looked_by_operator p w o vs =
     let s = situation_of p w in
     let e = bind o.params vs no_values in
-    cond ((length vs == length o.params) && list_all (bound_true s e) o.bounds) (followed_if (state_true s e o.pre) (looked_in_state (looks_of p w) s e o.pre) (looked_in_effects (looks_of p w) s e o.effects)) []
+    cond ((length vs == length o.params) && list_all (bound_true s e) o.bounds)
+    (followed_if (state_true s e o.pre) (looked_in_state (looks_of p w) s e o.pre) (looked_in_effects (looks_of p w) s e o.effects)) []
 
 -- looked at by the operator, where it exists
 abbrev pub looked_by_operator_if : PlainProblem → World → List Value → Option PlainOperator → List Operation

@@ -18,7 +18,8 @@ pub record IsDistance (p : PlainProblem) (x : Pair) (n : ℕ) : Type 0 where
 -- a path whose prefixes, itself included, all have different pairs
 pub record IsSimple (p : PlainProblem) (path : List Action) : Type 0 where
   pub executes : IsSome (pair_of p path)
-  pub differ : (front rest other left : List Action) → front ++ rest ≡ path → other ++ left ≡ path → pair_of p front ≡ pair_of p other → front ≡ other
+  pub differ : (front rest other left : List Action) → front ++ rest ≡ path → other ++ left ≡ path → pair_of p front ≡ pair_of p other →
+      front ≡ other
 
 -- a simple path of at most n actions that no simple accepted plan of at most n actions comes before
 pub record IsLeading (p : PlainProblem) (n : ℕ) (path : List Action) : Type 0 where

@@ -1,7 +1,9 @@
 -- Runs, and the truth of formulas along them.
 use Rattle.std.specs.Prelude.{◌≡◌, ℕ, suc, ◌+◌, ◌-◌, ◌%◌, ◌<◌, ◌≤◌, ◌⊎◌, List, [], ◌∷◌, length, slice_index_or, cond, IsTrue, nat_lt}
 use Rattle.tl_syntax.specs.Lists.{Each, AtLeastOne}
-use Rattle.tl_syntax.specs.Trees.{FormulaTree, FormulaTrees, verum, falsum, atom, defined, compare, goal_fact, goal_place, goal_not, negation, conjunction, disjunction, for_all, for_some, next, always, eventually, until, within, during, no_formula, more_formulas}
+use Rattle.tl_syntax.specs.Trees.{FormulaTree, FormulaTrees, verum, falsum, atom, defined, compare, goal_fact, goal_place, goal_not}
+use Rattle.tl_syntax.specs.Trees.{negation, conjunction, disjunction, for_all, for_some, next, always, eventually, until, within, during}
+use Rattle.tl_syntax.specs.Trees.{no_formula, more_formulas}
 use Rattle.tl_terms.specs.World.{World}
 use Rattle.tl_terms.specs.Problem.{PlainProblem}
 use Rattle.tl_terms.specs.Situation.{Situation}
@@ -55,7 +57,8 @@ pub record Run : Type 0 where
 
 -- the world at a position
 unfoldable pub state_at : Run → ℕ → World
-state_at r i = cond (nat_lt i (length r.stem)) (slice_index_or r.stem i r.first) (slice_index_or (r.first ∷ r.rest) ((i - length r.stem) % suc (length r.rest)) r.first)
+state_at r i = cond (nat_lt i (length r.stem)) (slice_index_or r.stem i r.first)
+    (slice_index_or (r.first ∷ r.rest) ((i - length r.stem) % suc (length r.rest)) r.first)
 
 -- an infinite sequence of worlds, any worlds at all
 abbrev pub Worlds : Type 0

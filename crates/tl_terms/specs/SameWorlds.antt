@@ -14,4 +14,5 @@ entry_eq a b = eq_by_cmp key_cmp a.0 b.0 && eq_by_cmp value_cmp a.1 b.1
 
 -- the same facts, and the same places with the same values
 abbrev pub world_eq : World → World → Bool
-world_eq v w = pointwise (eq_by_cmp key_cmp) (set.items v.facts) (set.items w.facts) && pointwise entry_eq (dict.entries v.places) (dict.entries w.places)
+world_eq v w = pointwise (eq_by_cmp key_cmp) (set.items v.facts) (set.items w.facts) && pointwise entry_eq (dict.entries v.places)
+    (dict.entries w.places)

@@ -1,7 +1,8 @@
 -- Negation, conjunction and disjunction that simplify, as progression uses them.
 use Rattle.std.specs.Prelude.{List, [], ◌∷◌, ◌++◌, flat_map, filter, Bool, true, false, cond, not}
 use Rattle.std.specs.List.{list_any}
-use Rattle.tl_syntax.specs.Trees.{FormulaTree, FormulaTrees, verum, falsum, negation, conjunction, disjunction, no_formula, more_formulas, formulas_of_list}
+use Rattle.tl_syntax.specs.Trees.{FormulaTree, FormulaTrees, verum, falsum, negation, conjunction, disjunction, no_formula, more_formulas}
+use Rattle.tl_syntax.specs.Trees.{formulas_of_list}
 use Rattle.tl_syntax.proofs.Same.{formula_discrete}
 
 -- whether a decided question is answered by yes
@@ -63,12 +64,14 @@ disjunction_of (f ∷ (g ∷ fs)) = disjunction (more_formulas f (more_formulas 
 -- the conjunction of the formulas: inner conjunctions are opened, a part `false` gives `false`,
 -- each `true` is dropped, of equal parts the first stays
 unfoldable pub simplified_and : List FormulaTree → FormulaTree
-simplified_and fs = let ps = flat_map and_parts fs in cond (list_any is_falsum ps) falsum (conjunction_of (without_repeats (filter (λ f. not (is_verum f)) ps)))
+simplified_and fs = let ps = flat_map and_parts fs in cond (list_any is_falsum ps) falsum
+    (conjunction_of (without_repeats (filter (λ f. not (is_verum f)) ps)))
 
 -- the disjunction of the formulas: inner disjunctions are opened, a part `true` gives `true`, each
 -- `false` is dropped, of equal parts the first stays
 unfoldable pub simplified_or : List FormulaTree → FormulaTree
-simplified_or fs = let ps = flat_map or_parts fs in cond (list_any is_verum ps) verum (disjunction_of (without_repeats (filter (λ f. not (is_falsum f)) ps)))
+simplified_or fs = let ps = flat_map or_parts fs in cond (list_any is_verum ps) verum
+    (disjunction_of (without_repeats (filter (λ f. not (is_falsum f)) ps)))
 
 -- the negation of the formula: of a constant the other one, and of a negation its part
 unfoldable pub simplified_not : FormulaTree → FormulaTree

@@ -86,7 +86,8 @@ applied p w o vs =
     let s = situation_of p w in
     let e = bind o.params vs no_values in
     let cs = all_instances s e o.effects in
-    cond ((length vs == length o.params) && (list_all (bound_true s e) o.bounds && (state_true s e o.pre && (list_all is_defined cs && no_clash (flat_map given cs)))))
+    cond ((length vs == length o.params) && (list_all (bound_true s e) o.bounds &&
+    (state_true s e o.pre && (list_all is_defined cs && no_clash (flat_map given cs)))))
     (Some (changed w cs))
     None
 

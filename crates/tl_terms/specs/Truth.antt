@@ -5,7 +5,9 @@ use Rattle.tl_syntax.specs.declared.value.Value.{Value}
 use Rattle.tl_syntax.specs.declared.value.Value.TheVariants.{Int}
 use Rattle.tl_syntax.specs.declared.value.Cmp.{Cmp}
 use Rattle.tl_syntax.specs.declared.value.Cmp.TheVariants as cmp
-use Rattle.tl_syntax.specs.Trees.{FormulaTree, FormulaTrees, verum, falsum, atom, defined, compare, goal_fact, goal_place, goal_not, negation, conjunction, disjunction, for_all, for_some, next, always, eventually, until, within, during, no_formula, more_formulas}
+use Rattle.tl_syntax.specs.Trees.{FormulaTree, FormulaTrees, verum, falsum, atom, defined, compare, goal_fact, goal_place, goal_not}
+use Rattle.tl_syntax.specs.Trees.{negation, conjunction, disjunction, for_all, for_some, next, always, eventually, until, within, during}
+use Rattle.tl_syntax.specs.Trees.{no_formula, more_formulas}
 use Rattle.tl_terms.specs.Situation.{Situation, DefinitionTruths}
 use Rattle.tl_syntax.specs.Assignment.{Assignment, bind}
 use Rattle.tl_terms.specs.Terms.{term_value, term_values, place_value}

@@ -57,12 +57,12 @@ pub fn false_residual_begins_no_satisfying_run()
     ensures { FalseResidualBeginsNoRun }
 {}
 
-/// A plan is accepted exactly where it executes and its pair is accepted.
+/// A plan is accepted exactly where it executes and its search node is accepted.
 pub fn accepted_exactly_where_its_pair_is()
     ensures { AcceptedWhereItsPairIs }
 {}
 
-/// Of two plans with one pair both are accepted or none, so one of them may stand for both.
+/// Of two plans with one search node both are accepted or none, so one of them may stand for both.
 pub fn acceptance_depends_on_the_pair()
     ensures { AcceptanceDependsOnThePair }
 {}
@@ -72,8 +72,8 @@ pub fn open_by_its_own_residual()
     ensures { OpenByItsResidual }
 {}
 
-/// Of two paths with one pair, the same further actions lead to one pair, so duplicate detection
-/// loses nothing.
+/// Of two paths with one search node, the same further actions lead to one search node, so
+/// duplicate detection loses nothing.
 pub fn future_depends_on_the_pair()
     ensures { FutureDependsOnThePair }
 {}

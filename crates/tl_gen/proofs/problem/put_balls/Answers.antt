@@ -8,4 +8,5 @@ loop-before-preserved c =
     let room = c.args.room.now in
     let before = c.loop-before.before in
     let so_far : c.loop-before.text ≡ c.args.text.now ++ text_of_lines (ball_lines room before) = c.loop-before.invariant in
-    rw (c.in_ok-extend-2.ensures, c.in_ok-extend.ensures, c.as_bytes.ensures.value, c.in_ok-line.ensures, so_far) (one_more_ball c.args.text.now room before)
+    rw (c.in_ok-extend-2.ensures, c.in_ok-extend.ensures, c.as_bytes.ensures.value, c.in_ok-line.ensures, so_far)
+    (one_more_ball c.args.text.now room before)

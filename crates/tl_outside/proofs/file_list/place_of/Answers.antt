@@ -13,7 +13,8 @@ returns-then-eq c =
     let r = c.index-files-index.result in
     let i = c.loop-index.index in
     let lt : i < length (map name_and_bytes fs) = rw length-map (omega arith) in
-    let is : get_or (map name_and_bytes fs) i (name_and_bytes r) ≡ name_and_bytes r = get_or-map name_and_bytes fs i r ∙ ap name_and_bytes (sym c.index-files-index.is) in
+    let is : get_or (map name_and_bytes fs) i (name_and_bytes r) ≡ name_and_bytes r = get_or-map name_and_bytes fs i r ∙
+    ap name_and_bytes (sym c.index-files-index.is) in
     let same : bytes_eq c.args.name.now (string_bytes r.name) ≡ true = rw (← c.as_str.ensures.value) (sym c.eq.ensures ∙ c.if-eq.true) in
     (omega arith, found (map name_and_bytes fs) c.args.name.now i (name_and_bytes r) lt is same c.loop-index.invariant)
 
@@ -23,7 +24,8 @@ loop-index-preserved c =
     let r = c.index-files-index.result in
     let i = c.loop-index.index in
     let lt : i < length (map name_and_bytes fs) = rw length-map (omega arith) in
-    let is : get_or (map name_and_bytes fs) i (name_and_bytes r) ≡ name_and_bytes r = get_or-map name_and_bytes fs i r ∙ ap name_and_bytes (sym c.index-files-index.is) in
+    let is : get_or (map name_and_bytes fs) i (name_and_bytes r) ≡ name_and_bytes r = get_or-map name_and_bytes fs i r ∙
+    ap name_and_bytes (sym c.index-files-index.is) in
     let other : bytes_eq c.args.name.now (string_bytes r.name) ≡ false = rw (← c.as_str.ensures.value) (sym c.eq.ensures ∙ c.if-eq.false) in
     passed (map name_and_bytes fs) c.args.name.now i (name_and_bytes r) lt is other c.loop-index.invariant
 

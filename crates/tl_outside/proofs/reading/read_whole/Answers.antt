@@ -20,8 +20,10 @@ takes-preserved g c =
       within = omega (arith, len, t.bound.0, room, c.min-want.ensures, c.len-in-takes.ensures);
       front = rw (t.whole, more) (front_more _ _ _ _ t.bound.0 i.front (rw i.taken at t.bytes));
       found = i.found;
-      calls = subst (λ (n : ℕ). TakesSo (g.S.Store.calls c.args.store.now) (g.S.Store.calls c.take.new.self) c.args.name.now c.args.limit n) (sym len)
-          (takes_more _ _ _ c.args.name.now c.args.limit (length c.takes.bytes) c.in_ok-count.count (omega (arith, c.takes-test.true)) c.if-count-eq0.false i.calls t.calls);
+      calls = subst (λ (n : ℕ). TakesSo (g.S.Store.calls c.args.store.now) (g.S.Store.calls c.take.new.self) c.args.name.now c.args.limit n)
+          (sym len)
+          (takes_more _ _ _ c.args.name.now c.args.limit (length c.takes.bytes) c.in_ok-count.count
+          (omega (arith, c.takes-test.true)) c.if-count-eq0.false i.calls t.calls);
       later = omega (arith, t.cause.later);
     }
 
@@ -47,16 +49,19 @@ returns-clause-failed g c = search rules
 pub returns-in_err-count-clause-calls : goal.returns-in_err-count-clause-calls
 returns-in_err-count-clause-calls g c =
     let p = err_from_is_err_and c.from_residual-in_err-count.result c.from_residual-in_err-count.ensures.1 in
-    rw (p.1, p.2) (take_failed _ _ _ c.args.name.now c.args.limit (length c.takes.bytes) (omega (arith, c.takes-test.true)) c.takes.invariant.calls c.in_err-count.ensures.calls)
+    rw (p.1, p.2) (take_failed _ _ _ c.args.name.now c.args.limit (length c.takes.bytes)
+    (omega (arith, c.takes-test.true)) c.takes.invariant.calls c.in_err-count.ensures.calls)
 
 pub returns-then-count-eq0-clause-calls : goal.returns-then-count-eq0-clause-calls
 returns-then-count-eq0-clause-calls g c =
-    takes_none _ _ _ c.args.name.now c.args.limit (length c.takes.bytes) c.in_ok-count.count (omega (arith, c.takes-test.true)) c.if-count-eq0.true c.takes.invariant.calls c.in_ok-count.ensures.calls
+    takes_none _ _ _ c.args.name.now c.args.limit (length c.takes.bytes) c.in_ok-count.count
+    (omega (arith, c.takes-test.true)) c.if-count-eq0.true c.takes.invariant.calls c.in_ok-count.ensures.calls
 
 pub returns-in_err-extend-clause-calls : goal.returns-in_err-extend-clause-calls
 returns-in_err-extend-clause-calls g c =
     let p = err_from_is_err_and c.from_residual-in_err-extend.result c.from_residual-in_err-extend.ensures.1 in
-    let more = takes_more _ _ _ c.args.name.now c.args.limit (length c.takes.bytes) c.in_ok-count.count (omega (arith, c.takes-test.true)) c.if-count-eq0.false c.takes.invariant.calls c.in_ok-count.ensures.calls in
+    let more = takes_more _ _ _ c.args.name.now c.args.limit (length c.takes.bytes) c.in_ok-count.count
+    (omega (arith, c.takes-test.true)) c.if-count-eq0.false c.takes.invariant.calls c.in_ok-count.ensures.calls in
     rw (p.1, p.2) (takes_end _ _ c.args.name.now c.args.limit _ more)
 
 pub returns-clause-calls : goal.returns-clause-calls

@@ -19,7 +19,8 @@ puts-preserved g c =
     let n = c.in_ok-done.field-0 in
     record {
       within = omega (arith, t.bound, length_take_le (length all - c.puts.done) (drop c.puts.done all), c.puts-test.true);
-      bytes = t.bytes ∙ ap (λ told. append_known told (take n (take (length all - c.puts.done) (drop c.puts.done all)))) i.bytes ∙ append_known_more _ all c.puts.done n;
+      bytes = t.bytes ∙ ap (λ told. append_known told (take n (take (length all - c.puts.done) (drop c.puts.done all)))) i.bytes ∙
+          append_known_more _ all c.puts.done n;
       puts = leads_more _ _ _ all c.puts.done n c.puts-test.true i.puts t.puts;
       later = omega (arith, t.cause.later, i.later);
     }

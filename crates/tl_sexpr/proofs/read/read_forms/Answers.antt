@@ -7,13 +7,15 @@ loop-at-init c = read_nothing c.args.bytes.now c.new-reader.result c.new-reader.
 
 pub returns-clause-spelled : goal.returns-clause-spelled
 returns-clause-spelled c =
-    finished c.args.bytes.now c.loop-at.reader c.loop-at.at c.finish.result c.loop-at.invariant c.loop-at-test.false c.finish.ensures.none_open c.finish.ensures.forms
+    finished c.args.bytes.now c.loop-at.reader c.loop-at.at c.finish.result c.loop-at.invariant c.loop-at-test.false
+    c.finish.ensures.none_open c.finish.ensures.forms
 
 pub returns-clause-few_symbols : goal.returns-clause-few_symbols
 returns-clause-few_symbols c = few_symbols c.args.bytes.now c.finish.result (returns-clause-spelled c)
 
 pub returns-clause-fault : goal.returns-clause-fault
-returns-clause-fault c = fault_at_end c.args.bytes.now c.loop-at.reader c.loop-at.at c.finish.result c.loop-at.invariant c.loop-at-test.false c.finish.ensures.unclosed
+returns-clause-fault c = fault_at_end c.args.bytes.now c.loop-at.reader c.loop-at.at c.finish.result c.loop-at.invariant
+    c.loop-at-test.false c.finish.ensures.unclosed
 
 pub returns-clause-reads : goal.returns-clause-reads
 returns-clause-reads c = reads_all c.args.bytes.now c.finish.result (returns-clause-spelled c) (returns-clause-fault c)
@@ -22,7 +24,9 @@ pub returns-clause-refuses : goal.returns-clause-refuses
 returns-clause-refuses c = refuses_all c.args.bytes.now c.finish.result (returns-clause-spelled c) (returns-clause-fault c)
 
 pub returns-in_err-at-clause-reads : goal.returns-in_err-at-clause-reads
-returns-in_err-at-clause-reads c = reads_on c.args.bytes.now c.from_residual.result c.in_err-at.field-0.0 c.from_residual.ensures.1 c.in_err-at.ensures.fault
+returns-in_err-at-clause-reads c = reads_on c.args.bytes.now c.from_residual.result c.in_err-at.field-0.0 c.from_residual.ensures.1
+    c.in_err-at.ensures.fault
 
 pub returns-in_err-at-clause-refuses : goal.returns-in_err-at-clause-refuses
-returns-in_err-at-clause-refuses c = refuses_on c.args.bytes.now c.from_residual.result c.in_err-at.field-0.0 c.from_residual.ensures.1 c.in_err-at.ensures.fault
+returns-in_err-at-clause-refuses c = refuses_on c.args.bytes.now c.from_residual.result c.in_err-at.field-0.0 c.from_residual.ensures.1
+    c.in_err-at.ensures.fault

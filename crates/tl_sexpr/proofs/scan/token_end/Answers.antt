@@ -14,5 +14,6 @@ pub loop-end-preserved : goal.loop-end-preserved
 loop-end-preserved c = record {
   some = omega arith;
   bounded = omega arith;
-  each = more_in_range (λ k. IsTrue (is_token_byte (slice_index c.args.bytes.now k))) c.args.from c.loop-end.end c.loop-end.invariant.each (sym c.if-is_token_byte.ensures);
+  each = more_in_range (λ k. IsTrue (is_token_byte (slice_index c.args.bytes.now k))) c.args.from c.loop-end.end c.loop-end.invariant.each
+      (sym c.if-is_token_byte.ensures);
 }

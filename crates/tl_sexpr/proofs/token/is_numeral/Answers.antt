@@ -9,5 +9,6 @@ use Rattle.tl_sexpr.proofs.token.is_numeral.Goals as goal
 pub returns-then-not-is_empty : goal.returns-then-not-is_empty
 returns-then-not-is_empty c =
     let text = c.args.text.now in
-    let all : c.all.result ≡ list_all is_ascii_digit text = all_from_yields_List is_ascii_digit _ _ c.all.result c.all.ensures.ran (YieldsList-from_slice text cc) (λ x b q k. search (rules, tests)) in
+    let all : c.all.result ≡ list_all is_ascii_digit text = all_from_yields_List is_ascii_digit _ _ c.all.result c.all.ensures.ran
+    (YieldsList-from_slice text cc) (λ x b q k. search (rules, tests)) in
     numeral_by_test text c.all.result all (sym c.if-not-is_empty.ensures)

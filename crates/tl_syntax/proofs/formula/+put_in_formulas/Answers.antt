@@ -12,5 +12,6 @@ Formulas::with_values-returns t c =
     record {
       substituted =
           substituted-Formulas e c.args.self.now c.loop-formula.out (c.loop-formula.invariant
-          ∙ ap (map (λ (x : Formula). substituted e (tree_of_formula x))) (take_all _ _ c.loop-formula-test.false ∙ c.deref-formula-items.ensures.value));
+          ∙ ap (map (λ (x : Formula). substituted e (tree_of_formula x)))
+          (take_all _ _ c.loop-formula-test.false ∙ c.deref-formula-items.ensures.value));
     }

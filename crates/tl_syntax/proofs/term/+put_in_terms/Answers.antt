@@ -12,5 +12,6 @@ Terms::with_values-returns t c =
     record {
       substituted =
           substituted-Terms e c.args.self.now c.loop-term.out (c.loop-term.invariant
-          ∙ ap (map (λ (x : Term). substituted_term e (tree_of_term x))) (take_all _ _ c.loop-term-test.false ∙ c.deref-term-items.ensures.value));
+          ∙ ap (map (λ (x : Term). substituted_term e (tree_of_term x)))
+          (take_all _ _ c.loop-term-test.false ∙ c.deref-term-items.ensures.value));
     }

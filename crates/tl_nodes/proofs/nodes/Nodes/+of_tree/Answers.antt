@@ -18,8 +18,11 @@ of_trees-loop-f-preserved t c =
     take_more xs c.loop-f.f-index c.f-item.result c.loop-f-test.true ∙ ap (λ x. take c.loop-f.f-index xs ++ x ∷ []) (sym c.f-item.is) in
     record {
       kept = λ i u h. a.kept i u (was.kept i u h);
-      below = subst (λ ids. all_below (length us) ids ≡ true) (sym c.in_ok-push.ensures) (push-below us c.loop-f.ids c.in_ok-id.id (tree_of_formula c.f-item.result) (keeps-below ts us a.kept c.loop-f.ids was.below) a.number);
+      below = subst (λ ids. all_below (length us) ids ≡ true) (sym c.in_ok-push.ensures)
+          (push-below us c.loop-f.ids c.in_ok-id.id (tree_of_formula c.f-item.result)
+          (keeps-below ts us a.kept c.loop-f.ids was.below) a.number);
       same = ap (trees_at us) c.in_ok-push.ensures
-          ∙ (push-trees us c.loop-f.ids c.in_ok-id.id c.f-item.result (take c.loop-f.f-index xs) (keeps-all ts us a.kept c.loop-f.ids was.below ∙ was.same) a.number
+          ∙ (push-trees us c.loop-f.ids c.in_ok-id.id c.f-item.result (take c.loop-f.f-index xs)
+          (keeps-all ts us a.kept c.loop-f.ids was.below ∙ was.same) a.number
           ∙ ap (map tree_of_formula) (sym more));
     }

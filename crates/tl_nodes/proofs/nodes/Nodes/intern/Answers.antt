@@ -2,7 +2,8 @@ use Rattle.std.proofs.Common.{refl, rules, subst, arith, sym, ap, ◌∙◌, []}
 use Rattle.tl_nodes.proofs.nodes.Nodes.intern.Goals as goal
 use Rattle.tl_nodes.specs.Fits.{EachFits}
 use Rattle.tl_nodes.specs.NodeTrees.{trees_of_nodes}
-use Rattle.tl_nodes.proofs.Insertion.{absent, pushed, unmoved, number, keeps, same-trees, more-trees, below-more, one-more, constants-more, flags-more, flags-pushed, where_refused}
+use Rattle.tl_nodes.proofs.Insertion.{absent, pushed, unmoved, number, keeps, same-trees, more-trees, below-more, one-more, constants-more}
+use Rattle.tl_nodes.proofs.Insertion.{flags-more, flags-pushed, where_refused}
 use Rattle.tl_nodes.proofs.FilledTrees.{filled-stay}
 use Rattle.tl_nodes.proofs.OneMoreNode.{fresh}
 
@@ -27,7 +28,8 @@ invariant_of-self-then-is_new c =
       below = below-more _ _ _ e c.requires s.below;
       one_to_one = one-more _ _ _ e c.requires s.below s.one_to_one (absent s.table.keys _ c.args.node _ a.keys a.added c.if-is_new.true);
       constants = constants-more _ _ _ e c.requires s.constants;
-      flags = flags-pushed s.temporal.items _ _ _ _ _ c.args.node c.reserve.ensures.items c.as_slice.ensures.value c.temporal_of-flag.ensures
+      flags = flags-pushed s.temporal.items _ _ _ _ _ c.args.node c.reserve.ensures.items c.as_slice.ensures.value
+          c.temporal_of-flag.ensures
           (c.push.ensures.succeeds (omega (arith, c.in-Ok.ensures.ok))) c.push.ensures.items
           ∙ flags-more _ _ _ e c.requires s.temporal.items s.flags;
       places = s.places;
@@ -66,7 +68,8 @@ pub returns-then-is_new-clause-known : goal.returns-then-is_new-clause-known
 returns-then-is_new-clause-known c =
     let a = c.in_ok-at.ensures in
     let s = c.args.self.now in
-    λ i h. absurd (fresh s.table.keys s.below s.one_to_one c.args.node c.requires (absent s.table.keys _ c.args.node _ a.keys a.added c.if-is_new.true) i h)
+    λ i h. absurd (fresh s.table.keys s.below s.one_to_one c.args.node c.requires
+    (absent s.table.keys _ c.args.node _ a.keys a.added c.if-is_new.true) i h)
 
 pub returns-else-is_new-clause-known : goal.returns-else-is_new-clause-known
 returns-else-is_new-clause-known c =

@@ -13,5 +13,7 @@ invariant_of-self c =
       constants = s.constants;
       flags = s.flags;
       places = set-length s.filled.items c.home_of-home.result e ∙ s.places;
-      filled_is = filled-set (trees s) s.filled.items c.home_of-home.result e s.filled_is (is-filled (trees s) e c.args.at c.args.bindings.now c.args.number c.of-entry.ensures.at c.of-entry.ensures.few c.of-entry.ensures.bindings c.of-entry.ensures.number c.requires.at c.requires.number);
+      filled_is = filled-set (trees s) s.filled.items c.home_of-home.result e s.filled_is
+          (is-filled (trees s) e c.args.at c.args.bindings.now c.args.number c.of-entry.ensures.at c.of-entry.ensures.few
+          c.of-entry.ensures.bindings c.of-entry.ensures.number c.requires.at c.requires.number);
     }

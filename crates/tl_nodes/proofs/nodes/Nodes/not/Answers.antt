@@ -8,10 +8,12 @@ pub intern-requires : goal.intern-requires
 intern-requires c = fits-not _ c.args.part c.requires
 
 pub returns-in-True-clause-number : goal.returns-in-True-clause-number
-returns-in-True-clause-number c = falsehood _ c.args.self.now.constants ∙ ap Some (sym (not-true-node _ c.args.part _ c.get.ensures.tree c.in-True.is))
+returns-in-True-clause-number c = falsehood _ c.args.self.now.constants ∙
+    ap Some (sym (not-true-node _ c.args.part _ c.get.ensures.tree c.in-True.is))
 
 pub returns-in-False-clause-number : goal.returns-in-False-clause-number
-returns-in-False-clause-number c = truth _ c.args.self.now.constants ∙ ap Some (sym (not-false-node _ c.args.part _ c.get.ensures.tree c.in-False.is))
+returns-in-False-clause-number c = truth _ c.args.self.now.constants ∙
+    ap Some (sym (not-false-node _ c.args.part _ c.get.ensures.tree c.in-False.is))
 
 pub returns-in-Not-clause-number : goal.returns-in-Not-clause-number
 returns-in-Not-clause-number c = not-not-node _ c.args.part _ c.get.ensures.tree c.in-Not.inner c.in-Not.is c.get.ensures.parts

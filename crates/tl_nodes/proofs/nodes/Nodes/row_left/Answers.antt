@@ -10,8 +10,12 @@ loop-k-preserved-then-is_dropped c =
     let ts = trees c.args.self.now in
     let xs = c.args.parts.now in
     let row = slice_range xs c.loop-k.from c.loop-k.to in
-    let i = c.loop-k.invariant in
-    (i.0, omega arith, opened-more ts c.args.junction xs c.loop-k.k row row c.loop-k-test.true c.requires c.in-None.ensures.parts (c.is_dropped.ensures.dropped c.if-is_dropped.true) i.2)
+    let i = c.loop-k.invariant in (
+      i.0,
+      omega arith,
+      opened-more ts c.args.junction xs c.loop-k.k row row c.loop-k-test.true c.requires c.in-None.ensures.parts
+          (c.is_dropped.ensures.dropped c.if-is_dropped.true) i.2,
+    )
 
 pub loop-k-preserved : goal.loop-k-preserved
 loop-k-preserved c =
@@ -25,10 +29,15 @@ loop-k-preserved c =
     let inside : k < length xs = c.loop-k-test.true in
     let more : slice_range xs c.if-from-to.from (k + 1) ≡ row ++ slice_index_or xs k 0 ∷ [] = elim c.if-from-to.branch [
       | then-from-to w ↦ row-begun xs c.loop-k.from c.loop-k.to k c.if-from-to.from w.if-from-to.true w.from-is inside
-      | else-from-to+else-to-k w ↦ row-going xs c.loop-k.from c.loop-k.to k c.if-from-to.from w.from-is (omega (arith, w.if-to-k.false)) under inside
+      | else-from-to+else-to-k w ↦ row-going xs c.loop-k.from c.loop-k.to k c.if-from-to.from w.from-is
+          (omega (arith, w.if-to-k.false)) under inside
     ] in
     let first : c.if-from-to.from ≤ k + 1 = elim c.if-from-to.branch [
       | then-from-to w ↦ omega (arith, w.from-is)
       | else-from-to+else-to-k w ↦ omega (arith, w.from-is)
-    ] in
-    (first, omega arith, opened-more ts c.args.junction xs k row (slice_range xs c.if-from-to.from (k + 1)) inside c.requires c.in-None.ensures.parts (more ∙ c.is_dropped.ensures.kept c.if-is_dropped.false) i.2)
+    ] in (
+      first,
+      omega arith,
+      opened-more ts c.args.junction xs k row (slice_range xs c.if-from-to.from (k + 1)) inside c.requires
+          c.in-None.ensures.parts (more ∙ c.is_dropped.ensures.kept c.if-is_dropped.false) i.2,
+    )

@@ -5,4 +5,5 @@ use Rattle.tl_syntax.proofs.formula.Formula.is_same.Goals as goal
 pub returns : goal.returns
 unfolding formula_eq
 returns c =
-    let same = formula-same c.args.self.now c.args.other.now in record { same = (λ h. same.0 (sym c.eq.ensures ∙ h), λ e. c.eq.ensures ∙ same.1 e) }
+    let same = formula-same c.args.self.now c.args.other.now in record
+    { same = (λ h. same.0 (sym c.eq.ensures ∙ h), λ e. c.eq.ensures ∙ same.1 e) }

@@ -14,11 +14,13 @@ returns-in_ok-append-in-None-clause-added c =
 
 pub returns-in_ok-append-in-None-clause-number : goal.returns-in_ok-append-in-None-clause-number
 returns-in_ok-append-in-None-clause-number c =
-    rw (c.in_ok-append-in-None.ensures.added, c.in_ok-append-in-None.ensures.number) (number_of-pushed c.args.self.now c.args.text.now (sym c.in-None.ensures.number))
+    rw (c.in_ok-append-in-None.ensures.added, c.in_ok-append-in-None.ensures.number)
+    (number_of-pushed c.args.self.now c.args.text.now (sym c.in-None.ensures.number))
 
 pub returns-in_ok-append-in-None-clause-text : goal.returns-in_ok-append-in-None-clause-text
 returns-in_ok-append-in-None-clause-text c =
-    rw c.in_ok-append-in-None.ensures.added (slice_get-pushed c.args.self.now c.args.text.now c.in_ok-append-in-None.field-0 c.in_ok-append-in-None.ensures.number)
+    rw c.in_ok-append-in-None.ensures.added (slice_get-pushed c.args.self.now c.args.text.now c.in_ok-append-in-None.field-0
+    c.in_ok-append-in-None.ensures.number)
 
 pub returns-in_ok-append-in-None-clause-kept : goal.returns-in_ok-append-in-None-clause-kept
 returns-in_ok-append-in-None-clause-kept c = λ n before.

@@ -14,4 +14,5 @@ invariant_of-self-2 c =
     let absent : number_of names text ≡ None = rw c.self.view_is c.requires.new in
     let room : length names < 2 ^ 32 - 1 = rw c.self.view_is c.requires.room in
     let next : c.len-number.result ≡ length names = grind (arith, common_steps) in
-    rw pushed (IsNumbered-push rc_str_bytes names text c.self.inside.numbers c.insert.new.self c.len-number.result c.self.invariant absent room next c.in_ok-insert.ensures.updates)
+    rw pushed (IsNumbered-push rc_str_bytes names text c.self.inside.numbers c.insert.new.self c.len-number.result c.self.invariant absent
+    room next c.in_ok-insert.ensures.updates)

@@ -14,8 +14,10 @@ loop-number-preserved c =
     let entry : RcStr Global × ℕ = (c.in_ok-clone.field-0, k) in
     let pushed : c.push.new.self.items ≡ old ++ entry ∷ [] = c.in_ok-push.ensures.items in
     let texts : texts_in (old ++ entry ∷ []) ≡ take (k + 1) (map rc_str_bytes c.deref-text-items.result.now) =
-    images-more rc_str_bytes (λ e. rc_str_bytes e.0) c.deref-text-items.result.now old k c.text-item.result entry c.loop-number-test.true c.text-item.is c.loop-number.invariant.texts c.in_ok-clone.ensures.cases in
-    let numbers : AreTheirPlaces (numbers_in (old ++ entry ∷ [])) = counted-more (λ e. e.1) old entry c.loop-number.invariant.numbers (sym c.loop-number.invariant.count) in
+    images-more rc_str_bytes (λ e. rc_str_bytes e.0) c.deref-text-items.result.now old k c.text-item.result entry c.loop-number-test.true
+    c.text-item.is c.loop-number.invariant.texts c.in_ok-clone.ensures.cases in
+    let numbers : AreTheirPlaces (numbers_in (old ++ entry ∷ [])) = counted-more (λ e. e.1) old entry c.loop-number.invariant.numbers
+    (sym c.loop-number.invariant.count) in
     record {
       count = grind (arith, common_steps);
       texts = rw pushed texts;

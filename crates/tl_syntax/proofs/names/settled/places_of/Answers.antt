@@ -19,8 +19,10 @@ loop-place-preserved c =
     let entry = c.index-entries-place.result in
     let at : slice_get (numbers_in c.args.entries.now) c.loop-place.place ≡ Some entry.1 =
     read_at (λ e. e.1) c.args.entries.now c.loop-place.place entry entry.1 c.loop-place-test.true c.index-entries-place.is refl in
-    let below : entry.1 < length c.loop-place.places.items = rw c.loop-place.invariant.count (c.requires.below c.loop-place.place entry.1 at) in
+    let below : entry.1 < length c.loop-place.places.items = rw c.loop-place.invariant.count
+    (c.requires.below c.loop-place.place entry.1 at) in
     record {
       count = rw length-set c.loop-place.invariant.count;
-      places = GivesPlaces-more c.loop-place.places.items (numbers_in c.args.entries.now) c.loop-place.place entry.1 c.requires.differ at below c.loop-place.invariant.places;
+      places = GivesPlaces-more c.loop-place.places.items (numbers_in c.args.entries.now) c.loop-place.place entry.1 c.requires.differ at
+          below c.loop-place.invariant.places;
     }
