@@ -1,5 +1,5 @@
 // How many rows of a table come before those with the tuples after one.
-ghost use Rattle.std.specs.Prelude.{◌≡◌, ◌<◌, ◌≤◌, ◌+◌, ◌^◌, ℕ, [], length, slice_get, true, false, IfSome};
+ghost use Rattle.std.specs.Prelude.{◌≡◌, ◌<◌, ◌≤◌, ◌+◌, ◌^◌, ℕ, [], length, slice_get, false, IfSome, IsTrue};
 ghost use Rattle.tl_syntax.specs.Lists.{Rises};
 ghost use Rattle.tl_match.specs.Fits.{fits_at, fits_all, fits_before, is_value, occurs};
 ghost use Rattle.tl_match.specs.Front.{front, is_passed, seen_after, seen_in, is_in_turn, are_in_turn, AreKept, ArePassed, IsFirstKept};
@@ -7,9 +7,9 @@ ghost use Rattle.tl_match.specs.Least.{HasLater};
 ghost use Rattle.tl_rows.specs.Tables.{row_cmp};
 
 use crate::Part;
-use crate::front::{are_in_turn, order_of_front, value_of_part};
+use crate::front::{are_in_turn, order_of_front};
 use std::cmp::Ordering;
-use tl_rows::{Difference, Runs};
+use tl_rows::Runs;
 use tl_syntax::Value;
 
 /// Whether a row to which the front stands so is passed over, with those that tie or without them.
@@ -27,7 +27,7 @@ fn is_passed(ties: bool, order: Ordering) -> bool
 fn passes_before(rows: &Runs, lead: &[Part], known: &[Value], ties: bool, at: usize) -> bool
     requires order { Rises row_cmp rows.now }
     requires bound { at ≤ length rows.now }
-    ensures { result ≡ true → ArePassed ties (front 0 lead.now known.now) rows.now at }
+    ensures { IsTrue result → ArePassed ties (front 0 lead.now known.now) rows.now at }
 {
     at == 0 || is_passed(ties, order_of_front(lead, known, rows.row(at - 1)))
 }
@@ -36,7 +36,7 @@ fn passes_before(rows: &Runs, lead: &[Part], known: &[Value], ties: bool, at: us
 fn keeps_from(rows: &Runs, lead: &[Part], known: &[Value], ties: bool, at: usize) -> bool
     requires order { Rises row_cmp rows.now }
     requires bound { at ≤ length rows.now }
-    ensures { result ≡ true → AreKept ties (front 0 lead.now known.now) rows.now at }
+    ensures { IsTrue result → AreKept ties (front 0 lead.now known.now) rows.now at }
 {
     at == rows.len() || !is_passed(ties, order_of_front(lead, known, rows.row(at)))
 }
@@ -81,8 +81,8 @@ pub fn rows_before_near(rows: &Runs, lead: &[Part], near: usize) -> usize
 /// next one.
 pub(crate) fn after_part(part: Part, v: Value, seen: usize, tuple: &[Value]) -> Option<usize>
     requires { seen + 1 < 2 ^ 64 }
-    ensures fits { IfSome result (λ _. fits_at part v tuple.now ≡ true) }
-    ensures turn { IfSome result (λ _. is_in_turn seen part ≡ true) }
+    ensures fits { IfSome result (λ _. IsTrue (fits_at part v tuple.now)) }
+    ensures turn { IfSome result (λ _. IsTrue (is_in_turn seen part)) }
     ensures seen { IfSome result (λ next. next ≡ seen_after seen part) }
 {
     match part {
@@ -114,8 +114,8 @@ fn is_at(tuple: &[Value], n: usize, v: Value) -> bool
 /// in, and the variables first stand in the order of their numbers.
 #[inline(always)]
 pub(crate) fn fits_in_turn(parts: &[Part], row: &[Value], tuple: &[Value]) -> Option<usize>
-    ensures fits { IfSome result (λ _. fits_all parts.now row.now tuple.now ≡ true) }
-    ensures turn { IfSome result (λ _. are_in_turn 0 parts.now ≡ true) }
+    ensures fits { IfSome result (λ _. IsTrue (fits_all parts.now row.now tuple.now)) }
+    ensures turn { IfSome result (λ _. IsTrue (are_in_turn 0 parts.now)) }
     ensures seen { IfSome result (λ seen. seen ≡ seen_in 0 parts.now) }
     ensures few { IfSome result (λ seen. seen ≤ length parts.now) }
 {
@@ -138,10 +138,10 @@ pub(crate) fn fits_in_turn(parts: &[Part], row: &[Value], tuple: &[Value]) -> Op
 /// first stand in the order of their numbers.
 #[inline(always)]
 fn is_after_row(rows: &Runs, parts: &[Part], tuple: &[Value], at: usize) -> bool
-    ensures bound { result ≡ true → at ≤ length rows.now }
-    ensures some { result ≡ true → 1 ≤ at }
-    ensures row { result ≡ true → fits_before parts.now rows.now at tuple.now ≡ true }
-    ensures turn { result ≡ true → are_in_turn 0 parts.now ≡ true }
+    ensures bound { IsTrue result → at ≤ length rows.now }
+    ensures some { IsTrue result → 1 ≤ at }
+    ensures row { IsTrue result → IsTrue (fits_before parts.now rows.now at tuple.now) }
+    ensures turn { IsTrue result → IsTrue (are_in_turn 0 parts.now) }
 {
     let Some(k) = at.checked_sub(1) else {
         return false;
@@ -160,10 +160,10 @@ pub(crate) fn rows_up_to(
     tuple: &[Value],
     near: usize,
 ) -> Option<usize>
-    requires each { (n : ℕ) → n < length tuple.now → occurs n parts.now ≡ true }
-    requires slots { (n : ℕ) → occurs n parts.now ≡ true → n < length tuple.now }
+    requires each { (n : ℕ) → n < length tuple.now → IsTrue (occurs n parts.now) }
+    requires slots { (n : ℕ) → IsTrue (occurs n parts.now) → n < length tuple.now }
     requires order { Rises row_cmp rows.now }
-    ensures turn { IfSome result (λ _. are_in_turn 0 parts.now ≡ true) }
+    ensures turn { IfSome result (λ _. IsTrue (are_in_turn 0 parts.now)) }
     ensures bound { IfSome result (λ i. i ≤ length rows.now) }
     ensures later { IfSome result (λ i. HasLater parts.now begun tuple.now rows.now i) }
 {
@@ -177,54 +177,19 @@ pub(crate) fn rows_up_to(
     }
 }
 
-/// A guess for the place after the row with the tuple's values.
-#[inline(always)]
-fn guess_after(rows: &Runs, parts: &[Part], tuple: &[Value]) -> usize {
-    let count = rows.len();
-    if count == 0 {
-        return 0;
-    }
-    let Some(apart) = Difference::of(rows.row(0), rows.row(count - 1)) else {
-        return 1;
-    };
-    let part = parts.get(apart.column).copied();
-    match part.and_then(|p| value_of_part(p, tuple.len(), tuple)) {
-        Some(v) => apart.steps_to(v, count - 1).saturating_add(1),
-        None => 0,
-    }
-}
-
-/// How many rows come before those with the tuples after that in place. They are counted by halves
-/// where it is not the number that is guessed.
-fn rows_with(rows: &Runs, parts: &[Part], tuple: &[Value]) -> usize
-    requires each { (n : ℕ) → n < length tuple.now → occurs n parts.now ≡ true }
-    requires slots { (n : ℕ) → occurs n parts.now ≡ true → n < length tuple.now }
-    requires turn { are_in_turn 0 parts.now ≡ true }
-    requires order { Rises row_cmp rows.now }
-    ensures bound { result ≤ length rows.now }
-    ensures later { HasLater parts.now true tuple.now rows.now result }
-{
-    let guess = guess_after(rows, parts, tuple);
-    if is_after_row(rows, parts, tuple, guess) {
-        guess
-    } else {
-        rows_before(rows, parts, tuple, true)
-    }
-}
-
 /// How many rows come before those with the tuples after that in place, or before all tuples where
 /// none is. `near` is a guess for the latter.
 #[inline(never)]
 fn look_up_to(rows: &Runs, parts: &[Part], begun: bool, tuple: &[Value], near: usize) -> usize
-    requires each { (n : ℕ) → n < length tuple.now → occurs n parts.now ≡ true }
-    requires slots { (n : ℕ) → occurs n parts.now ≡ true → n < length tuple.now }
-    requires turn { are_in_turn 0 parts.now ≡ true }
+    requires each { (n : ℕ) → n < length tuple.now → IsTrue (occurs n parts.now) }
+    requires slots { (n : ℕ) → IsTrue (occurs n parts.now) → n < length tuple.now }
+    requires turn { IsTrue (are_in_turn 0 parts.now) }
     requires order { Rises row_cmp rows.now }
     ensures bound { result ≤ length rows.now }
     ensures later { HasLater parts.now begun tuple.now rows.now result }
 {
     if begun {
-        rows_with(rows, parts, tuple)
+        rows_before(rows, parts, tuple, true)
     } else {
         rows_before_near(rows, parts, near)
     }

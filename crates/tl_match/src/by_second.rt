@@ -1,6 +1,6 @@
 // The least tuple above another one in a table, by the second order of the table where the pattern
 // asks for it.
-ghost use Rattle.std.specs.Prelude.{◌≡◌, ◌<◌, ◌≤◌, ℕ, length, take, true};
+ghost use Rattle.std.specs.Prelude.{◌≡◌, ◌<◌, ◌≤◌, ℕ, length, take, IsTrue};
 ghost use Rattle.tl_syntax.specs.Lists.{Rises};
 ghost use Rattle.tl_match.specs.Fits.{occurs};
 ghost use Rattle.tl_match.specs.Least.{PutsNext};
@@ -8,7 +8,7 @@ ghost use Rattle.tl_rows.specs.Second.{exchanged};
 ghost use Rattle.tl_rows.specs.Tables.{row_cmp};
 
 use crate::next::put_next;
-use crate::{Match, Part};
+use crate::{MOST_PARTS, Match, Part};
 use tl_rows::Rows;
 
 /// Whether the first part is free and the second fixed, or the first is for a later variable and
@@ -32,11 +32,11 @@ pub fn is_in_second_order(rows: &Rows, parts: &[Part]) -> bool {
 }
 
 /// The parts with the first two exchanged, and others after them.
-fn exchanged_parts(parts: &[Part]) -> [Part; 9]
+fn exchanged_parts(parts: &[Part]) -> [Part; MOST_PARTS]
     requires { length parts.now ≤ 9 }
     ensures { take (length parts.now) result ≡ exchanged parts.now }
 {
-    let mut out = [Part::Free(0); 9];
+    let mut out = [Part::Free(0); MOST_PARTS];
     out[..parts.len()].copy_from_slice(parts);
     if parts.len() > 1 {
         out[0] = parts[1];
@@ -57,8 +57,8 @@ pub fn put_next_in_table(
     near: &mut usize,
 ) -> bool
     requires few { free ≤ 9 }
-    requires each { (n : ℕ) → n < free → occurs n parts.now ≡ true }
-    requires slots { (n : ℕ) → occurs n parts.now ≡ true → n < free }
+    requires each { (n : ℕ) → n < free → IsTrue (occurs n parts.now) }
+    requires slots { (n : ℕ) → IsTrue (occurs n parts.now) → n < free }
     requires short { length parts.now ≤ 9 }
     requires order { Rises row_cmp rows.now }
     ensures { PutsNext free parts.now rows.now begun tuple.old result tuple.new }

@@ -1,5 +1,5 @@
 // The first row that a pattern fits, whose variables first stand in the order of their numbers.
-ghost use Rattle.std.specs.Prelude.{◌≡◌, ◌<◌, ◌≤◌, ℕ, List, length, drop, take, true, false, IfSome, IfNone};
+ghost use Rattle.std.specs.Prelude.{◌≡◌, ◌<◌, ◌≤◌, ℕ, List, length, drop, take, true, false, IfSome, IfNone, IsTrue};
 ghost use Rattle.std.specs.Option.{is_some};
 ghost use Rattle.tl_syntax.specs.Lists.{Rises};
 ghost use Rattle.tl_match.specs.Fits.{fits_all, occurs, BeginsAs, EachBegins, EachFits, EachFitsAt, NoneFitsAt};
@@ -7,15 +7,20 @@ ghost use Rattle.tl_match.specs.Front.{BeginsOn, seen_after, seen_in, is_in_turn
 ghost use Rattle.tl_match.specs.Least.{IsLeastOf, HasLater};
 ghost use Rattle.tl_rows.specs.Tables.{row_cmp};
 
-use crate::Part;
 use crate::front::order_of_front;
+use crate::{MOST_PARTS, Part};
 use tl_rows::Runs;
 use tl_syntax::Value;
 
 /// How many first variables have values after the part, where a tuple that begins with the first
 /// `seen` values can make it the value `v`. A new variable gets its value.
-pub(crate) fn put_value(part: Part, v: Value, seen: usize, values: &mut [Value; 9]) -> Option<usize>
-    requires turn { is_in_turn seen part ≡ true }
+pub(crate) fn put_value(
+    part: Part,
+    v: Value,
+    seen: usize,
+    values: &mut [Value; MOST_PARTS],
+) -> Option<usize>
+    requires turn { IsTrue (is_in_turn seen part) }
     requires room { seen_after seen part ≤ 9 }
     ensures seen { IfSome result (λ next. next ≡ seen_after seen part) }
     ensures kept { BeginsAs seen values.new values.old }
@@ -46,11 +51,11 @@ pub(crate) fn put_values(
     parts: &[Part],
     free: u32,
     row: &[Value],
-    values: &mut [Value; 9],
+    values: &mut [Value; MOST_PARTS],
 ) -> Option<usize>
     requires few { free ≤ 9 }
-    requires slots { (n : ℕ) → occurs n parts.now ≡ true → n < free }
-    requires turn { are_in_turn 0 parts.now ≡ true }
+    requires slots { (n : ℕ) → IsTrue (occurs n parts.now) → n < free }
+    requires turn { IsTrue (are_in_turn 0 parts.now) }
     ensures seen { IfSome result (λ seen. seen ≡ seen_in 0 parts.now) }
     ensures bound { IfSome result (λ seen. seen ≤ free) }
     ensures fits { IfSome result (λ seen. EachFits parts.now row.now seen values.new) }
@@ -81,12 +86,12 @@ pub fn put_first(
     parts: &[Part],
     free: u32,
     from: usize,
-    values: &mut [Value; 9],
+    values: &mut [Value; MOST_PARTS],
 ) -> Option<usize>
     requires few { free ≤ 9 }
-    requires each { (n : ℕ) → n < free → occurs n parts.now ≡ true }
-    requires slots { (n : ℕ) → occurs n parts.now ≡ true → n < free }
-    requires turn { are_in_turn 0 parts.now ≡ true }
+    requires each { (n : ℕ) → n < free → IsTrue (occurs n parts.now) }
+    requires slots { (n : ℕ) → IsTrue (occurs n parts.now) → n < free }
+    requires turn { IsTrue (are_in_turn 0 parts.now) }
     requires order { Rises row_cmp rows.now }
     requires bound { from ≤ length rows.now }
     ensures least { IsLeastOf free parts.now (drop from rows.now) (is_some result) values.new }

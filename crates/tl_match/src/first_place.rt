@@ -1,6 +1,6 @@
 // The first place that a pattern fits, whose variables first stand in the order of their numbers.
 ghost use Rattle.std.specs.Option.{is_some};
-ghost use Rattle.std.specs.Prelude.{◌≡◌, ◌<◌, ◌≤◌, ◌+◌, ◌^◌, ◌++◌, ◌∷◌, ℕ, List, [], length, map, take, true, false, IfSome};
+ghost use Rattle.std.specs.Prelude.{◌≡◌, ◌<◌, ◌≤◌, ◌+◌, ◌^◌, ◌++◌, ◌∷◌, ℕ, List, [], length, map, take, false, IfSome, IsTrue};
 ghost use Rattle.tl_syntax.specs.Lists.{Rises};
 ghost use Rattle.tl_match.specs.Fits.{occurs};
 ghost use Rattle.tl_match.specs.Front.{front, are_in_turn};
@@ -8,10 +8,10 @@ ghost use Rattle.tl_match.specs.Least.{IsLeastOf, HasLater};
 ghost use Rattle.tl_match.specs.Places.{fits_place, whole_from, ArePlacesPassed, FitsPlaceBefore};
 ghost use Rattle.tl_rows.specs.Tables.{row_cmp, whole_row};
 
-use crate::Part;
 use crate::after::{after_part, fits_in_turn};
 use crate::first::{put_value, put_values};
 use crate::front::{are_in_turn, order_of_front};
+use crate::{MOST_PARTS, Part};
 use tl_rows::{Place, PlaceRows};
 use tl_syntax::Value;
 
@@ -39,8 +39,8 @@ pub fn places_before(rows: &PlaceRows, lead: &[Part], known: &[Value]) -> usize
 /// the tuple's values, and the variables first stand in the order of their numbers.
 fn fits_place(lead: &[Part], last: Part, row: &Place<'_>, tuple: &[Value]) -> bool
     requires { length lead.now + 1 < 2 ^ 64 }
-    ensures fits { result ≡ true → fits_place lead.now last row.now tuple.now ≡ true }
-    ensures turn { result ≡ true → are_in_turn 0 (lead.now ++ last ∷ []) ≡ true }
+    ensures fits { IsTrue result → IsTrue (fits_place lead.now last row.now tuple.now) }
+    ensures turn { IsTrue result → IsTrue (are_in_turn 0 (lead.now ++ last ∷ [])) }
 {
     match fits_in_turn(lead, row.place_args(), tuple) {
         Some(seen) => after_part(last, row.place_value(), seen, tuple).is_some(),
@@ -50,11 +50,17 @@ fn fits_place(lead: &[Part], last: Part, row: &Place<'_>, tuple: &[Value]) -> bo
 
 /// Whether some tuple of `free` values makes the leading parts and the last one the arguments and
 /// the value of the place. Its values are then put into the first places of `values`.
-fn put_place(lead: &[Part], last: Part, free: u32, row: &Place<'_>, values: &mut [Value; 9]) -> bool
+fn put_place(
+    lead: &[Part],
+    last: Part,
+    free: u32,
+    row: &Place<'_>,
+    values: &mut [Value; MOST_PARTS],
+) -> bool
     requires few { free ≤ 9 }
-    requires slots { (n : ℕ) → occurs n (lead.now ++ last ∷ []) ≡ true → n < free }
-    requires turn { are_in_turn 0 (lead.now ++ last ∷ []) ≡ true }
-    ensures fits { result ≡ true → fits_place lead.now last row.now (take free values.new) ≡ true }
+    requires slots { (n : ℕ) → IsTrue (occurs n (lead.now ++ last ∷ [])) → n < free }
+    requires turn { IsTrue (are_in_turn 0 (lead.now ++ last ∷ [])) }
+    ensures fits { IsTrue result → IsTrue (fits_place lead.now last row.now (take free values.new)) }
     ensures none { result ≡ false → (t : List Value) → fits_place lead.now last row.now t ≡ false }
 {
     match put_values(lead, free, row.place_args(), values) {
@@ -67,10 +73,10 @@ fn put_place(lead: &[Part], last: Part, free: u32, row: &Place<'_>, values: &mut
 /// first stand in the order of their numbers.
 fn is_after_place(rows: &PlaceRows, parts: &[Part], tuple: &[Value], at: usize) -> bool
     requires { 1 ≤ length parts.now }
-    ensures bound { result ≡ true → at ≤ length rows.now }
-    ensures some { result ≡ true → 1 ≤ at }
-    ensures row { result ≡ true → FitsPlaceBefore parts.now rows.now at tuple.now }
-    ensures turn { result ≡ true → are_in_turn 0 parts.now ≡ true }
+    ensures bound { IsTrue result → at ≤ length rows.now }
+    ensures some { IsTrue result → 1 ≤ at }
+    ensures row { IsTrue result → FitsPlaceBefore parts.now rows.now at tuple.now }
+    ensures turn { IsTrue result → IsTrue (are_in_turn 0 parts.now) }
 {
     let n = parts.len() - 1;
     at > 0 && at <= rows.len() && fits_place(&parts[..n], parts[n], &rows.place(at - 1), tuple)
@@ -86,11 +92,11 @@ pub(crate) fn places_up_to(
     tuple: &[Value],
     near: usize,
 ) -> Option<usize>
-    requires each { (n : ℕ) → n < length tuple.now → occurs n parts.now ≡ true }
-    requires slots { (n : ℕ) → occurs n parts.now ≡ true → n < length tuple.now }
+    requires each { (n : ℕ) → n < length tuple.now → IsTrue (occurs n parts.now) }
+    requires slots { (n : ℕ) → IsTrue (occurs n parts.now) → n < length tuple.now }
     requires some { 1 ≤ length parts.now }
     requires order { Rises row_cmp (map (λ r. r.args) rows.now) }
-    ensures turn { IfSome result (λ _. are_in_turn 0 parts.now ≡ true) }
+    ensures turn { IfSome result (λ _. IsTrue (are_in_turn 0 parts.now)) }
     ensures bound { IfSome result (λ i. i ≤ length rows.now) }
     ensures later { IfSome result (HasLater parts.now begun tuple.now (map whole_row rows.now)) }
 {
@@ -115,12 +121,12 @@ pub(crate) fn put_first_place(
     parts: &[Part],
     free: u32,
     from: usize,
-    values: &mut [Value; 9],
+    values: &mut [Value; MOST_PARTS],
 ) -> Option<usize>
     requires few { free ≤ 9 }
-    requires each { (n : ℕ) → n < free → occurs n parts.now ≡ true }
-    requires slots { (n : ℕ) → occurs n parts.now ≡ true → n < free }
-    requires turn { are_in_turn 0 parts.now ≡ true }
+    requires each { (n : ℕ) → n < free → IsTrue (occurs n parts.now) }
+    requires slots { (n : ℕ) → IsTrue (occurs n parts.now) → n < free }
+    requires turn { IsTrue (are_in_turn 0 parts.now) }
     requires some { 1 ≤ length parts.now }
     requires order { Rises row_cmp (map (λ r. r.args) rows.now) }
     requires bound { from ≤ length rows.now }

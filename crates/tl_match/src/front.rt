@@ -9,7 +9,7 @@ use tl_syntax::Value;
 
 /// The value of the part: a fixed one, or that of one of the first variables, of which `seen` came
 /// before.
-pub(crate) fn value_of_part(part: Part, seen: usize, known: &[Value]) -> Option<Value>
+fn value_of_part(part: Part, seen: usize, known: &[Value]) -> Option<Value>
     ensures { result ≡ known_value seen known.now part }
 {
     match part {

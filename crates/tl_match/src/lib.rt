@@ -17,5 +17,5 @@ pub use first::put_first;
 pub use first_place::places_before;
 pub use front::{are_in_turn, order_of_front};
 pub use next::put_next_in_places;
-pub use pattern::{Match, Part, Pattern};
+pub use pattern::{MOST_PARTS, Match, Part, Pattern};
 pub use row_match::{match_place, match_row};

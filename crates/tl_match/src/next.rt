@@ -1,6 +1,6 @@
 // The least tuple above another one in a table.
 ghost use Rattle.std.specs.Ordering.{is_lt};
-ghost use Rattle.std.specs.Prelude.{◌≡◌, ◌<◌, ◌≤◌, ◌&&◌, ℕ, length, map, take, true, false};
+ghost use Rattle.std.specs.Prelude.{◌≡◌, ◌<◌, ◌≤◌, ◌&&◌, ℕ, length, map, take, false, IsTrue};
 ghost use Rattle.tl_syntax.specs.Lists.{Rises};
 ghost use Rattle.tl_match.specs.Fits.{occurs};
 ghost use Rattle.tl_match.specs.Front.{front, front_cmp, known_of};
@@ -112,8 +112,8 @@ pub(crate) fn put_next(
     near: &mut usize,
 ) -> bool
     requires few { free ≤ 9 }
-    requires each { (n : ℕ) → n < free → occurs n parts.now ≡ true }
-    requires slots { (n : ℕ) → occurs n parts.now ≡ true → n < free }
+    requires each { (n : ℕ) → n < free → IsTrue (occurs n parts.now) }
+    requires slots { (n : ℕ) → IsTrue (occurs n parts.now) → n < free }
     requires short { length parts.now ≤ 9 }
     requires order { Rises row_cmp rows.now }
     ensures { PutsNext free parts.now rows.now begun tuple.old result tuple.new }
@@ -136,7 +136,7 @@ pub(crate) fn put_next(
 /// the order of the variables.
 fn put_least(rows: &Runs, parts: &[Part], free: u32, begun: bool, tuple: &mut Match) -> bool
     requires few { free ≤ 9 }
-    requires each { (n : ℕ) → n < free → occurs n parts.now ≡ true }
+    requires each { (n : ℕ) → n < free → IsTrue (occurs n parts.now) }
     requires short { length parts.now ≤ 9 }
     requires order { Rises row_cmp rows.now }
     ensures { PutsNext free parts.now rows.now begun tuple.old result tuple.new }
@@ -152,7 +152,7 @@ fn put_least(rows: &Runs, parts: &[Part], free: u32, begun: bool, tuple: &mut Ma
 /// leading parts exceed the fixed ones, or those of the best match so far.
 fn least_in_rows(rows: &Runs, parts: &[Part], free: u32, after: &Option<Match>) -> Option<Match>
     requires few { free ≤ 9 }
-    requires each { (n : ℕ) → n < free → occurs n parts.now ≡ true }
+    requires each { (n : ℕ) → n < free → IsTrue (occurs n parts.now) }
     requires short { length parts.now ≤ 9 }
     requires order { Rises row_cmp rows.now }
     ensures { IsLeast free (λ t. fits_some parts.now rows.now t && above after.now free t) result }
@@ -182,8 +182,8 @@ pub fn put_next_in_places(
     near: &mut usize,
 ) -> bool
     requires few { free ≤ 9 }
-    requires each { (n : ℕ) → n < free → occurs n parts.now ≡ true }
-    requires slots { (n : ℕ) → occurs n parts.now ≡ true → n < free }
+    requires each { (n : ℕ) → n < free → IsTrue (occurs n parts.now) }
+    requires slots { (n : ℕ) → IsTrue (occurs n parts.now) → n < free }
     requires short { length parts.now ≤ 9 }
     requires some { 1 ≤ length parts.now }
     requires order { Rises row_cmp (map (λ r. r.args) rows.now) }
@@ -214,7 +214,7 @@ fn put_least_place(
     near: &mut usize,
 ) -> bool
     requires few { free ≤ 9 }
-    requires each { (n : ℕ) → n < free → occurs n parts.now ≡ true }
+    requires each { (n : ℕ) → n < free → IsTrue (occurs n parts.now) }
     requires short { length parts.now ≤ 9 }
     requires some { 1 ≤ length parts.now }
     requires order { Rises row_cmp (map (λ r. r.args) rows.now) }
@@ -240,7 +240,7 @@ fn next_in_places(
     after: &Option<Match>,
 ) -> Option<Match>
     requires few { free ≤ 9 }
-    requires each { (n : ℕ) → n < free → occurs n parts.now ≡ true }
+    requires each { (n : ℕ) → n < free → IsTrue (occurs n parts.now) }
     requires short { length parts.now ≤ 9 }
     requires some { 1 ≤ length parts.now }
     requires order { Rises row_cmp (map (λ r. r.args) rows.now) }

@@ -4,6 +4,9 @@ ghost use Rattle.tl_match.specs.Patterns.{tuple_of};
 
 use tl_syntax::Value;
 
+/// How many parts a pattern has at most, and so how many variables.
+pub const MOST_PARTS: usize = 9;
+
 /// A part of a pattern: a value, or a variable by its number.
 #[derive(Clone, Copy, PartialEq, Eq)]
 pub enum Part {
@@ -21,10 +24,10 @@ pub struct Pattern {
     /// The position of the predicate or of the function in the domain's list.
     pub name: u32,
     /// The parts, of which the first `len` count.
-    pub parts: [Part; 9],
-    /// How many parts count, at most 9.
+    pub parts: [Part; MOST_PARTS],
+    /// How many parts count, at most `MOST_PARTS`.
     pub len: u32,
-    /// How many variables there are, at most 9. Each occurs among the parts.
+    /// How many variables there are, at most `MOST_PARTS`. Each occurs among the parts.
     pub free: u32,
 }
 
@@ -32,8 +35,8 @@ pub struct Pattern {
 #[derive(Clone, Copy)]
 pub struct Match {
     /// The values by the variables' numbers, of which the first `len` count.
-    pub values: [Value; 9],
-    /// How many variables there are, at most 9.
+    pub values: [Value; MOST_PARTS],
+    /// How many variables there are, at most `MOST_PARTS`.
     pub len: u32,
 }
 

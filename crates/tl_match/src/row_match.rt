@@ -1,9 +1,9 @@
 // The tuple that makes a pattern one row.
-ghost use Rattle.std.specs.Prelude.{◌≡◌, ◌<◌, ◌≤◌, ℕ, length, true};
+ghost use Rattle.std.specs.Prelude.{◌≡◌, ◌<◌, ◌≤◌, ℕ, length, IsTrue};
 ghost use Rattle.tl_match.specs.Fits.{fits_at, fits_all, occurs, Known, IsMatch};
 ghost use Rattle.tl_rows.specs.Tables.{whole_row};
 
-use crate::{Match, Part};
+use crate::{MOST_PARTS, Match, Part};
 use tl_rows::Place;
 use tl_syntax::Value;
 
@@ -37,17 +37,17 @@ fn fits(parts: &[Part], row: &[Value], tuple: &[Value]) -> bool
 }
 
 /// The value that each variable has to have for the row.
-fn gather(parts: &[Part], row: &[Value]) -> [Value; 9]
+fn gather(parts: &[Part], row: &[Value]) -> [Value; MOST_PARTS]
     requires { length parts.now ≡ length row.now }
     ensures known { Known parts.now row.now result }
     ensures size { length result ≡ 9 }
 {
-    let mut values = [Value::Sym(0); 9];
+    let mut values = [Value::Sym(0); MOST_PARTS];
     let mut k = parts.len();
     while k > 0 {
         k -= 1;
         if let Part::Free(n) = parts[k] {
-            if n < 9 {
+            if (n as usize) < MOST_PARTS {
                 values[n as usize] = row[k];
             }
         }
@@ -58,7 +58,7 @@ fn gather(parts: &[Part], row: &[Value]) -> [Value; 9]
 /// The tuple of `free` values that makes the parts the row, where there is one.
 pub fn match_row(parts: &[Part], free: u32, row: &[Value]) -> Option<Match>
     requires few { free ≤ 9 }
-    requires each { (n : ℕ) → n < free → occurs n parts.now ≡ true }
+    requires each { (n : ℕ) → n < free → IsTrue (occurs n parts.now) }
     ensures { IsMatch parts.now row.now free result }
 {
     if parts.len() != row.len() {
@@ -77,16 +77,16 @@ pub fn match_row(parts: &[Part], free: u32, row: &[Value]) -> Option<Match>
 /// where there is one.
 pub fn match_place(parts: &[Part], free: u32, row: &Place<'_>) -> Option<Match>
     requires few { free ≤ 9 }
-    requires each { (n : ℕ) → n < free → occurs n parts.now ≡ true }
+    requires each { (n : ℕ) → n < free → IsTrue (occurs n parts.now) }
     requires short { length parts.now ≤ 9 }
     ensures { IsMatch parts.now (whole_row row.now) free result }
 {
     let args = row.place_args();
     let n = args.len();
-    if n >= 9 {
+    if n >= MOST_PARTS {
         return None;
     }
-    let mut whole = [row.place_value(); 9];
+    let mut whole = [row.place_value(); MOST_PARTS];
     whole[..n].copy_from_slice(args);
     match_row(parts, free, &whole[..n + 1])
 }

@@ -1,12 +1,10 @@
 -- Rows of one length, cut from one list.
-use Rattle.std.proofs.Common.{◌≡◌, ℕ, zero, suc, ◌+◌, ◌-◌, ◌*◌, ◌<◌, ◌≤◌, List, [], ◌∷◌, ◌++◌, length, length-append, get_or, take, drop, append_assoc, refl, sym, ap, ◌∙◌, subst, arith}
+use Rattle.std.proofs.Common.{◌≡◌, ℕ, zero, suc, ◌+◌, ◌-◌, ◌*◌, ◌<◌, ◌≤◌, List, [], ◌∷◌, ◌++◌, length, length-append, get_or, take, drop, refl, sym, ap, ◌∙◌, subst, arith}
 use Rattle.std.proofs.Math.Nat.{mul-add, mul-suc, mul-sub, mul-le-mul_left, le_of_mul-le-mul_left}
 use Rattle.std.proofs.lemmas.List.{take_all, take-take, take-append-le, take-append-drop, take_at, drop-append-le, drop-drop, drop_at, length-drop, length-take-le, nil_from_length}
 use Rattle.std.specs.List.{insert, remove}
-use Rattle.tl_rows.specs.Cuts.{even_rows, items_back, items_on, items_with, items_without, HaveWidth}
-use Rattle.tl_rows.specs.Moves.{row_moved}
+use Rattle.tl_rows.specs.Cuts.{even_rows, items_with, items_without, HaveWidth}
 use Rattle.tl_rows.specs.Runs.{between}
-use Rattle.tl_rows.proofs.Moving.{back, on, place-back, place-on}
 use Rattle.tl_rows.proofs.Parts.{drop-taken}
 
 -- the rows one after another
@@ -195,62 +193,6 @@ module _ {X : Type 0} (w n : ℕ) (xs : List X) (size : w * n ≡ length xs) whe
       let t = within w n k xs size p in
       let l = length-append (take (w * k) xs) (drop (w * k + w) xs) in
       omega (arith, m, h, d, t, l, size)
-
-  -- rows between two places, and others after them
-  then-some : (a b m j : ℕ) (gap : ℕ) (ys : List X) → a ≤ b → b ≤ n → gap ≡ w * (b - a) → j ≡ (b - a) + m
-      → even_rows w j (take gap (drop (w * a) xs) ++ ys) ≡ take (b - a) (drop a rows) ++ even_rows w m ys
-  then-some a b m j gap ys p q is e =
-      let l = length-drop (w * a) xs in
-      let t = some-size w n a b xs size p q in
-      let long : w * (b - a) ≤ length (drop (w * a) xs) = omega (arith, l, t) in
-      let part = take (w * (b - a)) (drop (w * a) xs) in
-      (λ i. even_rows w (e i) (take (is i) (drop (w * a) xs) ++ ys))
-      ∙ (joined w (b - a) m part ys (sym (length-take-le (w * (b - a)) (drop (w * a) xs) long))
-      ∙ ap (λ rs. rs ++ even_rows w m ys) (some-rows w n a b xs p q))
-
-  -- the row at `at`, and none at `cut`
-  module _ (row : List X) (fits : length row ≡ w) (cut at : ℕ) where
-    pub back-rows : at ≤ cut → cut < n → even_rows w n (items_back xs (w * at) (w * cut) row) ≡ row_moved rows cut at row
-    back-rows p q =
-        let c = count w n xs in
-        let s = mul-suc w cut in
-        let g = mul-sub w cut at in
-        let gap : w * cut - w * at ≡ w * (cut - at) = omega (arith, g) in
-        let past : w * cut + length row ≡ w * suc cut = omega (arith, s, fits) in
-        let b = take (cut - at) (drop at rows) in
-        let d = drop (suc cut) rows in
-        let rest = drop (w * cut + length row) xs in
-        let tail : even_rows w ((cut - at) + (n - suc cut)) (take (w * cut - w * at) (drop (w * at) xs) ++ rest) ≡ b ++ d =
-        then-some at cut (n - suc cut) ((cut - at) + (n - suc cut)) (w * cut - w * at) rest p (omega (arith, q)) gap refl
-        ∙ ap (λ rs. b ++ rs) (ap (λ j. even_rows w (n - suc cut) (drop j xs)) past ∙ sym (last-rows w (suc cut) n xs (omega (arith, q)))) in
-        after at (suc ((cut - at) + (n - suc cut))) n (row ++ (take (w * cut - w * at) (drop (w * at) xs) ++ rest)) (omega (arith, p, q)) (omega (arith, p, q))
-        ∙ (ap (λ rs. take at rows ++ rs) (row-first w ((cut - at) + (n - suc cut)) row (take (w * cut - w * at) (drop (w * at) xs) ++ rest) fits ∙ ap (λ rs. row ∷ rs) tail)
-        ∙ (sym (append_assoc (take at rows ++ row ∷ []) b d ∙ append_assoc (take at rows) (row ∷ []) (b ++ d))
-        ∙ (back rows at cut (cut - at) row (omega (arith, p)) (omega (arith, q, c))
-        ∙ ap (remove (insert rows at row)) ((let e : suc cut ≡ cut + 1 = omega arith in e) ∙ place-back at cut p))))
-
-    pub on-rows : cut < at → at ≤ n → even_rows w n (items_on xs (w * cut) (w * at) row) ≡ row_moved rows cut at row
-    on-rows p q =
-        let c = count w n xs in
-        let s = mul-suc w cut in
-        let low : suc cut ≤ at = omega (arith, p) in
-        let g = mul-sub w at (suc cut) in
-        let past : w * cut + length row ≡ w * suc cut = omega (arith, s, fits) in
-        let gap : w * at - (w * cut + length row) ≡ w * (at - suc cut) = omega (arith, g, past) in
-        let b = take (at - suc cut) (drop (suc cut) rows) in
-        let d = drop at rows in
-        let mid = take (w * at - (w * cut + length row)) (drop (w * cut + length row) xs) in
-        let tail : even_rows w (suc (n - at)) (row ++ drop (w * at) xs) ≡ row ∷ d =
-        row-first w (n - at) row (drop (w * at) xs) fits ∙ ap (λ rs. row ∷ rs) (sym (last-rows w at n xs q)) in
-        let more : even_rows w ((at - suc cut) + suc (n - at)) (mid ++ (row ++ drop (w * at) xs)) ≡ b ++ row ∷ d =
-        ap (λ j. even_rows w ((at - suc cut) + suc (n - at)) (take (w * at - (w * cut + length row)) (drop j xs) ++ (row ++ drop (w * at) xs))) past
-        ∙ (then-some (suc cut) at (suc (n - at)) ((at - suc cut) + suc (n - at)) (w * at - (w * cut + length row)) (row ++ drop (w * at) xs) low q gap refl
-        ∙ ap (λ rs. b ++ rs) tail) in
-        after cut ((at - suc cut) + suc (n - at)) n (mid ++ (row ++ drop (w * at) xs)) (omega (arith, p, q)) (omega (arith, p, q))
-        ∙ (ap (λ rs. take cut rows ++ rs) more
-        ∙ (sym (append_assoc (take cut rows ++ b) (row ∷ []) d ∙ append_assoc (take cut rows) b (row ∷ d))
-        ∙ (on rows cut (at - suc cut) at row (omega (arith, p)) (omega (arith, q, c))
-        ∙ ap (remove (insert rows at row)) (place-on at cut p))))
 
 -- what a list of such rows says of its items
 module _ {X : Type 0} (w n : ℕ) (xs : List X) (v : List (List X)) (size : w * n ≡ length xs) (view : even_rows w n xs ≡ v) where

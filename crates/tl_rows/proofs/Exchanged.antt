@@ -11,12 +11,10 @@ use Rattle.std.specs.List.Sorted.{IsBinarySearchResult, IsNonDecreasingBy, IsPer
 use Rattle.std.specs.Ordering.{is_lt, ordering_index, ordering_reverse}
 use Rattle.tl_syntax.specs.declared.value.Value.{Value}
 use Rattle.tl_syntax.specs.Lists.{Each, Rises}
-use Rattle.tl_rows.specs.Moves.{place_after}
 use Rattle.tl_rows.specs.Plain.{row_cmp}
-use Rattle.tl_rows.specs.Second.{exchanged, IsSecond, IsKept, KeepsWith, KeepsWithout, KeepsMoved}
+use Rattle.tl_rows.specs.Second.{exchanged, IsSecond, IsKept, KeepsWith, KeepsWithout}
 use Rattle.tl_rows.proofs.Lookup.{row_total}
 use Rattle.tl_rows.proofs.Lent.{row_ties}
-use Rattle.tl_rows.proofs.Moving.{get-after}
 
 pub length-exchanged : {X : Type 0} (xs : List X) → length (exchanged xs) ≡ length xs
 length-exchanged [] = refl
@@ -115,16 +113,6 @@ without-one rows second k i gone other h p is e q at = record {
       omega (arith, less, same, out, was, before);
 }
 
--- one more row, and then one of the others less
-pub moved-one : (rows second : List (List Value)) (cut at i j : ℕ) (gone row out other : List Value) → IsSecond rows second → cut < length rows → at ≤ length rows → gone ≡ get_or rows cut gone → out ≡ exchanged gone → other ≡ exchanged row
-    → i < length second → HoldsAt (λ r. row_cmp r out ≡ Equal) second i → j ≤ length second → IsBinarySearchResult (λ r. row_cmp r other) second (Err j) → IsSecond (remove (insert rows at row) (place_after at cut)) (remove (insert second j other) (place_after j i))
-moved-one rows second cut at i j gone row out other h p q is e f r tie s place =
-    let more = with-one rows second at j row other h f s place in
-    let there = get-after rows at cut row gone q p in
-    let held = get-after second j i other out s r in
-    without-one (insert rows at row) (insert second j other) (place_after at cut) (place_after j i) gone out more there.1 (is ∙ sym there.0) e held.1
-    (λ d. subst (λ x. row_cmp x out ≡ Equal) (sym (get-after second j i other d s r).0) (tie d))
-
 each-pushed : (P : List Value → Type 0) (xs : List (List Value)) (x : List Value) → Each P xs → P x → Each P (xs ++ x ∷ [])
 each-pushed P [] x e p = (p, tt)
 each-pushed P (y ∷ xs) x e p = (e.0, each-pushed P xs x e.1 p)
@@ -172,13 +160,6 @@ module _ (before : Option (List (List Value))) (second : List (List Value)) (kep
       → HoldsAt (λ r. row_cmp r other ≡ Equal) second i → made ≡ remove second i → s ≡ Some made → KeepsWithout before gone s
   keeps-without gone other made i s e p at m is rows k q g h =
       subst (IsKept (remove rows k)) (sym (is ∙ ap Some m)) (without-one rows second k i gone other (held rows h) q g e p at)
-
-  pub keeps-moved : (gone row out other after : List Value) (made : List (List Value)) (i j : ℕ) (s : Option (List (List Value))) → out ≡ exchanged gone → other ≡ exchanged row → after ≡ exchanged row
-      → i < length second → HoldsAt (λ r. row_cmp r out ≡ Equal) second i → j ≤ length second → IsBinarySearchResult (λ r. row_cmp r other) second (Err j)
-      → made ≡ remove (insert second j after) (place_after j i) → s ≡ Some made → KeepsMoved before gone row s
-  keeps-moved gone row out other after made i j s e f g p at q place m is rows cut to r t w h =
-      subst (IsKept (remove (insert rows to row) (place_after to cut))) (sym (is ∙ ap Some (m ∙ ap (λ x. remove (insert second j x) (place_after j i)) (g ∙ sym f))))
-      (moved-one rows second cut to i j gone row out other (held rows h) r t w e f p at q place)
 
 -- what was made of the sorted rows is kept
 pub kept-made : {E : Type 0} (rows sorted : List (List Value)) (r : Result (Option (List (List Value))) E) → IsPermutation (map exchanged rows) sorted

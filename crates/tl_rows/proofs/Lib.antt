@@ -11,6 +11,6 @@ pub mod Lookup
 pub mod Order
 pub mod Lent
 pub mod Going
-pub mod Moving
+pub mod RowCodes
 pub mod RunEdits
 pub mod Exchanged

@@ -1,9 +1,9 @@
 -- What one look of a search by halves says of the rows on its side.
-use Rattle.std.proofs.Common.{◌≡◌, ℕ, ◌<◌, ◌≤◌, ◌+◌, List, length, get_or, Ordering, Less, Equal, Greater, true, true≢false, refl, sym, ap, ◌∙◌, subst, arith}
+use Rattle.std.proofs.Common.{◌≡◌, ℕ, ◌<◌, ◌≤◌, ◌+◌, List, length, get_or, Ordering, Less, Equal, Greater, refl, sym, ap, ◌∙◌, subst, arith}
 use Rattle.std.proofs.lemmas.List.{get_or_default}
 use Rattle.std.specs.List.{AllWithin}
 use Rattle.std.specs.List.Sorted.{IsNonDecreasingBy}
-use Rattle.std.specs.Ordering.{is_gt, is_lt, ordering_index}
+use Rattle.std.specs.Ordering.{ordering_index}
 
 least-index : (o : Ordering) → ordering_index o ≤ 0 → o ≡ Less
 least-index Less p = refl
@@ -28,14 +28,3 @@ module _ {X : Type 0} (ord : X → Ordering) (xs : List X) (m : ℕ) (x : X) (lo
   all-greater e rise k d p q =
       let r : ordering_index (ord (get_or xs m d)) ≤ ordering_index (ord (get_or xs k d)) = rise m k d p q in
       greatest-index _ (subst (λ o. ordering_index o ≤ ordering_index (ord (get_or xs k d))) (at Greater e d) r)
-
--- what a test of an order says
-pub is-greater : (o : Ordering) → is_gt o ≡ true → o ≡ Greater
-is-greater Less e = absurd (true≢false (sym e))
-is-greater Equal e = absurd (true≢false (sym e))
-is-greater Greater e = refl
-
-pub is-less : (o : Ordering) → is_lt o ≡ true → o ≡ Less
-is-less Less e = refl
-is-less Equal e = absurd (true≢false (sym e))
-is-less Greater e = absurd (true≢false (sym e))

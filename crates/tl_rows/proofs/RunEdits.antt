@@ -5,10 +5,8 @@ use Rattle.std.proofs.lemmas.List.Edits.{length-insert, length-remove}
 use Rattle.std.specs.List.{insert, remove}
 use Rattle.tl_syntax.specs.declared.value.Value.{Value}
 use Rattle.tl_rows.specs.declared.shared.Run.{Run}
-use Rattle.tl_rows.specs.Moves.{place_after, row_moved}
 use Rattle.tl_rows.specs.Runs.{lowered, raised, rows_in, run_place, AreCounted}
 use Rattle.tl_rows.proofs.Joined.{found-end, end-is-place}
-use Rattle.tl_rows.proofs.Moving.{get-after, place-further}
 use Rattle.tl_rows.proofs.Parts.{insert-back, remove-back}
 
 module _ {X : Type 0} where
@@ -22,22 +20,6 @@ module _ {X : Type 0} where
   insert-front [] t (suc k) x p = absurd (omega (arith, p))
   insert-front (y ∷ s) t zero x p = refl
   insert-front (y ∷ s) t (suc k) x p = ap (λ ys. y ∷ ys) (insert-front s t k x (omega (arith, p)))
-
-  pub move-front : (s t : List X) (cut at : ℕ) (x : X) → cut < length s → at ≤ length s → row_moved s cut at x ++ t ≡ row_moved (s ++ t) cut at x
-  move-front s t cut at x p q =
-      remove-front (insert s at x) t (place_after at cut) (get-after s at cut x x q p).1
-      ∙ ap (λ ys. remove ys (place_after at cut)) (insert-front s t at x q)
-
-  pub move-back : (s t : List X) (c a cut at : ℕ) (x : X) → cut ≡ length s + c → at ≡ length s + a → s ++ row_moved t c a x ≡ row_moved (s ++ t) cut at x
-  move-back s t c a cut at x e f =
-      remove-back s (insert t a x) (place_after a c) (place_after at cut) (place-further (length s) a c at cut f e)
-      ∙ ap (λ ys. remove ys (place_after at cut)) (insert-back s t a at x f)
-
-  pub moved-length : (xs : List X) (cut at : ℕ) (x : X) → cut < length xs → at ≤ length xs → length (row_moved xs cut at x) ≡ length xs
-  moved-length xs cut at x p q =
-      let more = length-insert xs at x q in
-      let less = length-remove (insert xs at x) (place_after at cut) (get-after xs at cut x x q p).1 in
-      omega (arith, more, less)
 
 -- run i is the one in which row k stands, and begins at place b
 pub record IsRunOf (rs : List Run) (i b k : ℕ) (d : Run) : Type 0 where
@@ -162,17 +144,6 @@ module _ (r d : Run) where
       let l = length-append x.rows.value (rows_in (take i rs)) in
       ap (λ ys. x.rows.value ++ ys) (put-rows rs i k (run_place rs i + k) row (omega (arith, p)) is q refl)
       ∙ insert-back x.rows.value (rows_in rs) (run_place rs i + k) j row (omega (arith, l, e))
-
-  pub moved-rows : (rs : List Run) (i c a cut at : ℕ) (row : List Value) → i < length rs → r.rows.value ≡ row_moved (get_or rs i d).rows.value c a row → c < length (get_or rs i d).rows.value → a ≤ length (get_or rs i d).rows.value
-      → cut ≡ run_place rs i + c → at ≡ run_place rs i + a → rows_in (set rs i r) ≡ row_moved (rows_in rs) cut at row
-  moved-rows [] i c a cut at row p is q t e f = absurd (omega (arith, p))
-  moved-rows (x ∷ rs) zero c a cut at row p is q t e f =
-      ap (λ ys. ys ++ rows_in rs) is
-      ∙ (move-front x.rows.value (rows_in rs) c a row q t ∙ λ i. row_moved (x.rows.value ++ rows_in rs) ((let m : c ≡ cut = omega (arith, e) in m) i) ((let m : a ≡ at = omega (arith, f) in m) i) row)
-  moved-rows (x ∷ rs) (suc i) c a cut at row p is q t e f =
-      let l = length-append x.rows.value (rows_in (take i rs)) in
-      ap (λ ys. x.rows.value ++ ys) (moved-rows rs i c a (run_place rs i + c) (run_place rs i + a) row (omega (arith, p)) is q t refl refl)
-      ∙ move-back x.rows.value (rows_in rs) (run_place rs i + c) (run_place rs i + a) cut at row (omega (arith, l, e)) (omega (arith, l, f))
 
   pub same-rows : (rs : List Run) (i : ℕ) → i < length rs → r.rows.value ≡ (get_or rs i d).rows.value → rows_in (set rs i r) ≡ rows_in rs
   same-rows [] i p is = absurd (omega (arith, p))

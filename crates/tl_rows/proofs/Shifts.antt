@@ -1,8 +1,7 @@
 -- Values that are moved within their list.
-use Rattle.std.proofs.Common.{◌≡◌, ℕ, ◌+◌, ◌-◌, ◌≤◌, List, [], ◌∷◌, ◌++◌, length, length-append, take, drop, append_assoc, refl, sym, ap, ◌∙◌, arith}
-use Rattle.std.proofs.Math.Seq.{take-append_seam}
+use Rattle.std.proofs.Common.{◌≡◌, ℕ, ◌+◌, ◌-◌, ◌≤◌, List, [], ◌∷◌, ◌++◌, length, length-append, take, drop, append_assoc, refl, ap, ◌∙◌, arith}
 use lib.Seq.{paste, take-append-le}
-use Rattle.std.proofs.lemmas.List.{drop-drop, drop_all, length-drop, length-take-le, take-take, take_all}
+use Rattle.std.proofs.lemmas.List.{drop_all, length-drop, length-take-le, take-take, take_all}
 use Rattle.tl_rows.proofs.Parts.{same-row, drop-past}
 
 -- values that are moved, and a row that is written over others
@@ -18,21 +17,6 @@ module _ {X : Type 0} (xs row y z : List X) (cut at w : ℕ) where
       let front : take at y ≡ take at xs = ap (take at) y-is ∙ (take-append-le at f (m ++ drop (cut + w) xs) (omega (arith, l)) ∙ take-take at (at + w) xs (omega arith)) in
       let rest : drop (at + w) y ≡ m ++ drop (cut + w) xs = ap (drop (at + w)) y-is ∙ drop-past f (m ++ drop (cut + w) xs) (at + w) 0 (omega (arith, l)) in
       made ∙ λ i. front i ++ (row ++ rest i)
-
-  pub shifted-on : cut + w ≤ at → at ≤ length xs → y ≡ paste xs cut (drop (cut + w) xs) (at - (cut + w)) → z ≡ take (at - w) y ++ (row ++ drop (at - w + w) y)
-      → z ≡ take cut xs ++ (take (at - (cut + w)) (drop (cut + w) xs) ++ (row ++ drop at xs))
-  shifted-on p q is made =
-      let f = take cut xs in
-      let k = length-drop (cut + w) xs in
-      let m = take (at - (cut + w)) (drop (cut + w) xs) in
-      let lf : length f ≡ cut = length-take-le cut xs (omega (arith, p, q)) in
-      let lm : length m ≡ at - (cut + w) = length-take-le (at - (cut + w)) (drop (cut + w) xs) (omega (arith, k, p, q)) in
-      let l : length (f ++ m) ≡ at - w = length-append f m ∙ (let e : length f + length m ≡ at - w = omega (arith, lf, lm, p) in e) in
-      let t = drop (cut + (at - (cut + w))) xs in
-      let front : take (at - w) y ≡ f ++ m = (λ i. take (sym l i) (is i)) ∙ take-append_seam (f ++ m) t in
-      let rest : drop (at - w + w) y ≡ drop at xs =
-      ap (drop (at - w + w)) is ∙ (drop-past (f ++ m) t (at - w + w) w (omega (arith, l)) ∙ (drop-drop w (cut + (at - (cut + w))) xs ∙ ap (λ j. drop j xs) (let e : cut + (at - (cut + w)) + w ≡ at = omega (arith, p) in e))) in
-      made ∙ ((λ i. front i ++ (row ++ rest i)) ∙ append_assoc f m (row ++ drop at xs))
 
 -- a row after all values, and then before those from a place on
 pub put-back : {X : Type 0} (xs row : List X) (s n : ℕ) → n ≡ length xs → s ≤ length xs

@@ -24,11 +24,6 @@ items_over xs at ys = take at xs ++ (ys ++ drop (at + length ys) xs)
 abbrev pub items_back : {X : Type 0} → List X → ℕ → ℕ → List X → List X
 items_back xs at cut ys = take at xs ++ (ys ++ (take (cut - at) (drop at xs) ++ drop (cut + length ys) xs))
 
--- the items with others before those from `at` on, and without as many from `cut` on, which all
--- come before it
-abbrev pub items_on : {X : Type 0} → List X → ℕ → ℕ → List X → List X
-items_on xs cut at ys = take cut xs ++ (take (at - (cut + length ys)) (drop (cut + length ys) xs) ++ (ys ++ drop at xs))
-
 -- the items with others before those from a place on
 abbrev pub items_with : {X : Type 0} → List X → ℕ → List X → List X
 items_with xs at ys = take at xs ++ (ys ++ drop at xs)

@@ -5,5 +5,4 @@ pub mod RowTests
 pub mod Cuts
 pub mod Runs
 pub mod Tables
-pub mod Moves
 pub mod Second

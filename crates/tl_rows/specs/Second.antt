@@ -1,11 +1,10 @@
 -- The rows of a table with their first two values exchanged, which a large table also keeps in
 -- order.
-use Rattle.std.specs.Prelude.{◌≡◌, ◌<◌, ◌≤◌, ◌-◌, ℕ, List, [], ◌∷◌, length, slice_index_or, Option, Some, None}
+use Rattle.std.specs.Prelude.{◌≡◌, ◌<◌, ◌-◌, ℕ, List, [], ◌∷◌, length, slice_index_or, Option, Some, None}
 use Rattle.std.specs.List.{insert, remove, sum_by}
 use Rattle.std.specs.declared.cmp.Ordering.TheVariants.{Less}
 use Rattle.tl_syntax.specs.declared.value.Value.{Value}
 use Rattle.tl_syntax.specs.Lists.{Rises}
-use Rattle.tl_rows.specs.Moves.{row_moved}
 use Rattle.tl_rows.specs.Plain.{row_cmp}
 
 -- the items with the first two exchanged, where there are two
@@ -38,11 +37,6 @@ KeepsWith before row after = (rows : List (List Value)) (k : ℕ) → IsKept row
 abbrev pub KeepsWithout : Option (List (List Value)) → List Value → Option (List (List Value)) → Type 0
 KeepsWithout before gone after = (rows : List (List Value)) (k : ℕ) → k < length rows → gone ≡ slice_index_or rows k gone
     → IsKept rows before → IsKept (remove rows k) after
-
--- what was kept of some rows, and what is kept with one more row and without one of them
-abbrev pub KeepsMoved : Option (List (List Value)) → List Value → List Value → Option (List (List Value)) → Type 0
-KeepsMoved before gone row after = (rows : List (List Value)) (cut at : ℕ) → cut < length rows → at ≤ length rows → gone ≡ slice_index_or rows cut gone
-    → IsKept rows before → IsKept (row_moved rows cut at row) after
 
 -- row k comes after the one before it, where there is one
 abbrev pub IsInTurn : List (List Value) → ℕ → Type 0

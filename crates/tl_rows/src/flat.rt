@@ -1,20 +1,18 @@
 // Rows of one length, one after another in one list.
 ghost use Rattle.std.specs.List.{insert, remove};
-ghost use Rattle.std.specs.Prelude.{◌≡◌, ◌<◌, ◌≤◌, ◌+◌, ◌-◌, ◌*◌, ◌^◌, ℕ, List, [], ◌∷◌, ◌++◌, length, take, drop, slice_index_or, true, IfOk, OnErr, OnOk};
+ghost use Rattle.std.specs.Prelude.{◌≡◌, ◌<◌, ◌≤◌, ◌+◌, ◌-◌, ◌*◌, ◌^◌, ℕ, List, [], ◌∷◌, ◌++◌, length, take, drop, slice_index_or, IfOk, OnErr, OnOk, IsTrue};
 ghost use Rattle.tl_syntax.proofs.Telling.{tells-partial};
-ghost use Rattle.tl_rows.specs.Cuts.{even_rows, items_back, items_on, items_over, items_with, items_without, HaveOneWidth, HaveWidth};
-ghost use Rattle.tl_rows.specs.Moves.{moved_by};
+ghost use Rattle.tl_rows.specs.Cuts.{even_rows, items_back, items_over, items_with, items_without, HaveOneWidth, HaveWidth};
 ghost use Rattle.tl_rows.specs.Runs.{between};
 ghost use Rattle.tl_rows.specs.RowTests.{rows_eq, rows-tell};
 
-use crate::row_move::Move;
 use crate::same_row::is_same_row;
 use std::alloc::Global;
 use std::marker::Model;
 use tl_syntax::{NoMemory, Value};
 
 /// One more than the greatest number of rows that is counted.
-const COUNTED: usize = 9223372036854775808;
+pub(crate) const COUNTED: usize = 9223372036854775808;
 
 /// Rows of one length, one after another in one list. Contracts see the list of the rows.
 #[derive(Drop)]
@@ -106,19 +104,6 @@ fn shift_back(values: &mut Vec<Value>, at: usize, cut: usize, row: &[Value])
     write_values(values, at, row);
 }
 
-/// Puts the row's values before those from `at` on, and takes as many out from the place `cut` on,
-/// which all come before it.
-#[inline]
-fn shift_on(values: &mut Vec<Value>, cut: usize, at: usize, row: &[Value])
-    requires order { cut + length row.now ≤ at }
-    requires bound { at ≤ length values.old.items }
-    ensures { values.new.items ≡ items_on values.old.items cut at row.now }
-{
-    let size = row.len();
-    values.copy_within(cut + size..at, cut);
-    write_values(values, at - size, row);
-}
-
 /// Takes so many values out from a place on.
 #[inline]
 fn cut_values(values: &mut Vec<Value>, at: usize, size: usize)
@@ -128,26 +113,6 @@ fn cut_values(values: &mut Vec<Value>, at: usize, size: usize)
     let count = values.len();
     values.copy_within(at + size..count, at);
     values.truncate(count - size);
-}
-
-/// Puts one row in the place of another, among so many rows that have as many values.
-#[inline(always)]
-fn move_values(values: &mut Vec<Value>, count: usize, step: &Move<'_>)
-    requires size { length step.now.row.now * count ≡ length values.old.items }
-    requires cut { step.now.cut < count }
-    requires at { step.now.at ≤ count }
-    ensures size { length values.new.items ≡ length values.old.items }
-    ensures rows { even_rows (length step.now.row.now) count values.new.items
-        ≡ moved_by (even_rows (length step.now.row.now) count values.old.items) step.now }
-{
-    let width = step.row.len();
-    let from = width * step.cut;
-    let to = width * step.at;
-    if step.at <= step.cut {
-        shift_back(values, to, from, step.row);
-    } else {
-        shift_on(values, from, to, step.row);
-    }
 }
 
 /// The values with those of the row before those from `at` on.
@@ -167,7 +132,7 @@ pub(crate) fn values_with(
     Ok(out)
 }
 
-/// The values without so many from `at` on.
+/// The values without so many from `at` on, with room for as many.
 fn values_without(
     alloc: Global,
     values: &[Value],
@@ -177,7 +142,7 @@ fn values_without(
     requires { at + size ≤ length values.now }
     ensures { IfOk result (λ v. v.items ≡ items_without values.now at size) }
 {
-    let mut out = Vec::with_capacity(alloc, values.len() - size)?;
+    let mut out = Vec::with_capacity(alloc, values.len())?;
     out.extend_from_slice(&values[..at])?;
     out.extend_from_slice(&values[at + size..])?;
     Ok(out)
@@ -253,7 +218,7 @@ impl Flat {
     /// Whether a row of so many values fits in with the rows.
     #[inline]
     pub(crate) fn takes(&self, width: usize) -> bool
-        ensures { result ≡ true → HaveWidth width self.now }
+        ensures { IsTrue result → HaveWidth width self.now }
     {
         self.count == 0 || self.width == width
     }
@@ -383,22 +348,6 @@ impl Flat {
         })
     }
 
-    /// The rows with one in the place of another, in one copy.
-    pub(crate) fn moved(&self, alloc: Global, step: &Move<'_>) -> Result<Flat, NoMemory>
-        requires cut { step.now.cut < length self.now }
-        requires at { step.now.at ≤ length self.now }
-        requires fits { HaveWidth (length step.now.row.now) self.now }
-        ensures { IfOk result (λ f. f ≡ moved_by self.now step.now) }
-    {
-        let mut values = Vec::from_slice(alloc, self.values.as_slice())?;
-        move_values(&mut values, self.count, step);
-        Ok(Flat {
-            width: step.row.len(),
-            count: self.count,
-            values,
-        })
-    }
-
     /// Puts one more row at place `k`. After a failure the rows are those of before.
     pub(crate) fn put_row(&mut self, k: usize, row: &[Value]) -> Result<(), NoMemory>
         requires place { k ≤ length self.old }
@@ -425,16 +374,5 @@ impl Flat {
         let width = self.width;
         cut_values(&mut self.values, width * k, width);
         self.count -= 1;
-    }
-
-    /// Puts one row in the place of another.
-    pub(crate) fn move_row(&mut self, step: &Move<'_>)
-        requires cut { step.now.cut < length self.old }
-        requires at { step.now.at ≤ length self.old }
-        requires fits { HaveWidth (length step.now.row.now) self.old }
-        ensures { self.new ≡ moved_by self.old step.now }
-    {
-        move_values(&mut self.values, self.count, step);
-        self.width = step.row.len();
     }
 }

@@ -1,7 +1,7 @@
 // The place of a row in rows that rise, found by halves.
 ghost use Rattle.std.specs.List.Sorted.{IsBinarySearchResult, IsSearchInRange};
 ghost use Rattle.std.specs.Ordering.{is_gt};
-ghost use Rattle.std.specs.Prelude.{◌≡◌, ◌<◌, ◌≤◌, [], length, slice_index_or, Err, IfSome};
+ghost use Rattle.std.specs.Prelude.{◌≡◌, ◌<◌, [], length, slice_index_or};
 ghost use Rattle.tl_rows.specs.Tables.{row_cmp};
 
 use crate::flat::Flat;
@@ -19,7 +19,7 @@ pub(crate) fn begins_after(rows: &Flat, args: &[Value]) -> bool
 
 /// The place of the row with these arguments, or the place at which it would stand, by halves.
 #[inline(always)]
-pub fn find_in(rows: &Flat, args: &[Value]) -> Result<usize, usize>
+pub(crate) fn find_in(rows: &Flat, args: &[Value]) -> Result<usize, usize>
     ensures range { IsSearchInRange result (length rows.now) }
     ensures place { IsBinarySearchResult (λ r. row_cmp r args.now) rows.now result }
 {
@@ -34,54 +34,4 @@ pub fn find_in(rows: &Flat, args: &[Value]) -> Result<usize, usize>
         }
     }
     Err(low)
-}
-
-/// The place at which a row with these arguments would stand, where it is not among the rows and
-/// would stand beside row `k`.
-#[inline(always)]
-fn place_beside(rows: &Flat, k: usize, args: &[Value]) -> Option<usize>
-    requires { k < length rows.now }
-    ensures within { IfSome result (λ at. at ≤ length rows.now) }
-    ensures place { IfSome result
-        (λ at. IsBinarySearchResult (λ r. row_cmp r args.now) rows.now (Err at)) }
-{
-    let count = rows.len();
-    match order_of(rows.row(k), args) {
-        Ordering::Less => {
-            if k + 1 == count || order_of(rows.row(k + 1), args).is_gt() {
-                return Some(k + 1);
-            }
-            None
-        }
-        Ordering::Equal => None,
-        Ordering::Greater => {
-            if k == 0 || order_of(rows.row(k - 1), args).is_lt() {
-                return Some(k);
-            }
-            None
-        }
-    }
-}
-
-/// The place of the row with these arguments, or the place at which it would stand. It looks beside
-/// row `k` first.
-#[inline(always)]
-pub fn find_near(rows: &Flat, k: usize, args: &[Value]) -> Result<usize, usize>
-    requires { k < length rows.now }
-    ensures range { IsSearchInRange result (length rows.now) }
-    ensures place { IsBinarySearchResult (λ r. row_cmp r args.now) rows.now result }
-{
-    match place_beside(rows, k, args) {
-        Some(at) => Err(at),
-        None => find_far(rows, args),
-    }
-}
-
-/// The same, by halves.
-#[inline(never)]
-fn find_far(rows: &Flat, args: &[Value]) -> Result<usize, usize>
-    ensures range { IsSearchInRange result (length rows.now) }
-    ensures place { IsBinarySearchResult (λ r. row_cmp r args.now) rows.now result }
-{
-    find_in(rows, args)
 }

@@ -2,17 +2,13 @@
 ghost use Rattle.std.specs.Hash as fed;
 ghost use Rattle.std.specs.Hash.{same_Alike};
 ghost use Rattle.std.specs.List.{insert, remove};
-ghost use Rattle.std.specs.Prelude.{◌≡◌, ◌<◌, ◌≤◌, ◌==◌, [], ◌∷◌, length, take, drop, slice_index_or, true, false, IfOk, IfSome, OnOk};
+ghost use Rattle.std.specs.Prelude.{◌≡◌, ◌<◌, ◌≤◌, ◌==◌, [], ◌∷◌, length, take, drop, slice_index_or, IfOk, IfSome, OnOk};
 ghost use Rattle.tl_syntax.proofs.Telling.{tells-partial, tells-equivalence};
 ghost use Rattle.tl_rows.specs.Codes.{row_code, rows_code};
-ghost use Rattle.tl_rows.specs.Moves.{place_left, moved_by, HasRowAt};
 ghost use Rattle.tl_rows.specs.RowTests.{rows_eq, rows-tell};
 ghost use Rattle.tl_rows.specs.Second.{IsSecond};
 
-use crate::flat::Flat;
-use crate::row_move::Move;
 use crate::runs::Runs;
-use crate::same_row::is_same_row;
 use crate::second::Second;
 use std::alloc::Global;
 use std::hash::{FoldHasher, Hash, Hasher};
@@ -58,13 +54,6 @@ pub fn code_of_row(row: &[Value]) -> u64
     hasher.finish()
 }
 
-/// The place of what stood at `at`, where the place `cut` is taken out.
-pub fn place_left(cut: usize, at: usize) -> usize
-    ensures { result ≡ place_left cut at }
-{
-    if at <= cut { at } else { at - 1 }
-}
-
 /// The rows, for worlds to share.
 #[inline(always)]
 pub fn share_rows(alloc: Global, rows: Rows) -> Result<Rc<Rows>, NoMemory>
@@ -107,14 +96,6 @@ impl Rows {
         ensures many { length (take result (drop k self.now)) ≡ result }
     {
         self.runs.same_rows(k, &other.runs, l)
-    }
-
-    /// Whether the row at place `k` has these arguments. It takes no memory.
-    #[inline(always)]
-    pub fn has_at(&self, k: usize, args: &[Value]) -> bool
-        ensures { result ≡ true → HasRowAt args.now self.now k }
-    {
-        k < self.runs.len() && is_same_row(self.runs.row(k), args)
     }
 
     /// The code of the rows. It takes no memory.
@@ -189,36 +170,6 @@ impl Rows {
         })
     }
 
-    /// The rows with one in the place of another, in one copy.
-    #[inline(always)]
-    pub(crate) fn moved(&self, alloc: Global, step: &Move<'_>) -> Result<Rows, NoMemory>
-        requires cut { step.now.cut < length self.now }
-        requires at { step.now.at ≤ length self.now }
-        ensures { IfOk result (λ r. r ≡ moved_by self.now step.now) }
-    {
-        let gone = self.runs.row(step.cut);
-        let more = self.code.wrapping_add(code_of_row(step.row));
-        Ok(Rows {
-            runs: self.runs.moved(alloc, step)?,
-            second: self.second.moved(alloc, gone, step.row)?,
-            code: more.wrapping_sub(code_of_row(gone)),
-        })
-    }
-}
-
-impl Rows {
-    /// The rows in one list, where they are not cut into runs and no second order is kept.
-    #[inline(always)]
-    pub fn list(&self) -> Option<&Flat>
-        ensures { IfSome result (λ list. list.now ≡ self.now) }
-    {
-        if self.second.rows().is_some() {
-            None
-        } else {
-            self.runs.uncut()
-        }
-    }
-
     /// The rows with one more at place `k`, for worlds to share.
     pub fn shared_with(&self, alloc: Global, k: usize, row: &[Value]) -> Result<Rc<Rows>, NoMemory>
         requires { k ≤ length self.now }
@@ -233,16 +184,6 @@ impl Rows {
         ensures { IfOk result (λ rows. rows.value ≡ remove self.now k) }
     {
         share_rows(alloc, self.without(alloc, k)?)
-    }
-
-    /// The rows with one in the place of another, in one copy, for worlds to share.
-    #[inline(always)]
-    pub fn shared_moved(&self, alloc: Global, step: &Move<'_>) -> Result<Rc<Rows>, NoMemory>
-        requires cut { step.now.cut < length self.now }
-        requires at { step.now.at ≤ length self.now }
-        ensures { IfOk result (λ rows. rows.value ≡ moved_by self.now step.now) }
-    {
-        share_rows(alloc, self.moved(alloc, step)?)
     }
 }
 
@@ -271,56 +212,6 @@ impl Rows {
         self.runs.cut_row(alloc, k)?;
         self.second = second;
         self.code = code;
-        Ok(())
-    }
-
-    /// Puts one row in the place of another, where the table keeps no second order and both are in
-    /// one run: whether that is so.
-    fn move_in_run(&mut self, alloc: Global, step: &Move<'_>) -> Result<bool, NoMemory>
-        requires cut { step.now.cut < length self.old }
-        requires at { step.now.at ≤ length self.old }
-        ensures all { IfOk result (λ b. b ≡ true → self.new ≡ moved_by self.old step.now) }
-        ensures none { IfOk result (λ b. b ≡ false → self.new ≡ self.old) }
-    {
-        if self.second.rows().is_some() {
-            return Ok(false);
-        }
-        let gone = self.runs.row(step.cut);
-        let more = self.code.wrapping_add(code_of_row(step.row));
-        let code = more.wrapping_sub(code_of_row(gone));
-        if self.runs.move_row(alloc, step)? {
-            self.code = code;
-            return Ok(true);
-        }
-        Ok(false)
-    }
-
-    /// Puts one row in the place of another, in one step where both are in one run.
-    fn move_either(&mut self, alloc: Global, step: &Move<'_>) -> Result<(), NoMemory>
-        requires cut { step.now.cut < length self.old }
-        requires at { step.now.at ≤ length self.old }
-        ensures { OnOk result (self.new ≡ moved_by self.old step.now) }
-    {
-        if self.move_in_run(alloc, step)? {
-            return Ok(());
-        }
-        self.cut_row(alloc, step.cut)?;
-        self.put_row(alloc, place_left(step.cut, step.at), step.row)
-    }
-
-    /// Puts one row in the place of another.
-    pub fn move_row(&mut self, alloc: Global, step: &Move<'_>) -> Result<(), NoMemory>
-        requires cut { step.now.cut < length self.old }
-        requires at { step.now.at ≤ length self.old }
-        ensures { OnOk result (self.new ≡ moved_by self.old step.now) }
-    {
-        if self.second.rows().is_none() {
-            return self.move_either(alloc, step);
-        }
-        let kept = mem::replace(&mut self.second, Second::none());
-        let second = kept.move_row(alloc, self.runs.row(step.cut), step.row)?;
-        self.move_either(alloc, step)?;
-        self.second = second;
         Ok(())
     }
 }

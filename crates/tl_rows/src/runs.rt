@@ -1,15 +1,13 @@
 // The rows of a table, in runs.
 ghost use Rattle.std.specs.List.{insert, remove};
 ghost use Rattle.std.specs.List.Sorted.{IsBinarySearchResult, IsSearchInRange};
-ghost use Rattle.std.specs.Prelude.{◌≡◌, ◌<◌, ◌≤◌, ◌+◌, ◌^◌, ◌↔◌, ◌++◌, [], ◌∷◌, length, take, drop, slice_index_or, true, false, IfOk, IfSome, OnErr, OnOk};
+ghost use Rattle.std.specs.Prelude.{◌≡◌, ◌<◌, ◌≤◌, ◌+◌, ◌^◌, ◌↔◌, ◌++◌, [], ◌∷◌, length, take, drop, slice_index_or, IfOk, IfSome, OnErr, OnOk, IsTrue};
 ghost use Rattle.tl_syntax.proofs.Telling.{tells-partial};
-ghost use Rattle.tl_rows.specs.Moves.{moved_by};
 ghost use Rattle.tl_rows.specs.RowTests.{rows_eq, rows-tell};
 ghost use Rattle.tl_rows.specs.Runs.{between, GainsSomeUpTo, GainsUpTo, IsPart, IsPartFor};
 ghost use Rattle.tl_rows.specs.Tables.{row_cmp};
 
 use crate::flat::Flat;
-use crate::row_move::Move;
 use crate::row_search::{begins_after, find_in};
 use crate::same_row::is_same_row;
 use crate::shared::{FEWEST, MOST, Shared};
@@ -324,24 +322,6 @@ impl Runs {
         Ok(())
     }
 
-    /// The rows with one more at place `k`.
-    pub(crate) fn with(&self, alloc: Global, k: usize, row: &[Value]) -> Result<Runs, NoMemory>
-        requires { k ≤ length self.now }
-        ensures { IfOk result (λ r. r ≡ insert self.now k row.now) }
-    {
-        if let Some(rows) = self.uncut()
-            && rows.len() < MOST
-            && rows.takes(row.len())
-        {
-            return Ok(Runs::of_list(alloc, rows.with(alloc, k, row)?));
-        }
-        let mut out = self.with_room(alloc)?;
-        out.push_rows(alloc, self, 0, k)?;
-        out.push(alloc, row)?;
-        out.push_rows(alloc, self, k, self.len())?;
-        Ok(out)
-    }
-
     /// Puts one more row at place `k`, in place where its run or the last rows have room. After a
     /// failure the rows are those of before.
     pub(crate) fn put_row(&mut self, alloc: Global, k: usize, row: &[Value]) -> Result<(), NoMemory>
@@ -379,31 +359,11 @@ impl Runs {
         Ok(())
     }
 
-    /// Puts one row in the place of another, where both are in one run or among the last rows:
-    /// whether they are. After a failure the rows are those of before.
-    pub(crate) fn move_row(&mut self, alloc: Global, step: &Move<'_>) -> Result<bool, NoMemory>
-        requires cut { step.now.cut < length self.old }
-        requires at { step.now.at ≤ length self.old }
-        ensures all { IfOk result (λ b. b ≡ true → self.new ≡ moved_by self.old step.now) }
-        ensures none { IfOk result (λ b. b ≡ false → self.new ≡ self.old) }
-        ensures same { OnErr result (self.new ≡ self.old) }
-    {
-        let full = self.shared.len();
-        if step.cut < full && step.at <= full {
-            return self.shared.move_row(alloc, step);
-        }
-        if step.cut < full || step.at < full || !self.last.takes(step.row.len()) {
-            return Ok(false);
-        }
-        self.last.move_row(&step.among(full));
-        Ok(true)
-    }
-
     /// Whether the rows stand in the table from the place on, by a comparison of each row.
     fn has_each_at(&self, at: usize, rows: &Flat) -> bool
         requires bound { at + length rows.now ≤ length self.now }
         requires small { at + length rows.now < 2 ^ 64 }
-        ensures { (result ≡ true) ↔ (between self.now at (at + length rows.now) ≡ rows.now) }
+        ensures { IsTrue result ↔ (between self.now at (at + length rows.now) ≡ rows.now) }
     {
         let mut i = 0;
         while i < rows.len() {
@@ -419,7 +379,7 @@ impl Runs {
     fn has_at(&self, at: usize, rows: &Flat, guess: usize) -> bool
         requires bound { at + length rows.now ≤ length self.now }
         requires small { at + length rows.now < 2 ^ 64 }
-        ensures { (result ≡ true) ↔ (between self.now at (at + length rows.now) ≡ rows.now) }
+        ensures { IsTrue result ↔ (between self.now at (at + length rows.now) ≡ rows.now) }
     {
         let (part, from) = self.part_of(at, guess);
         if from == at && part.len() == rows.len() {
@@ -468,7 +428,7 @@ impl Runs {
     /// Whether the table begins with the rows of the runs.
     fn begins_with(&self, shared: &Shared) -> bool
         requires { length shared.now ≤ length self.now }
-        ensures { (result ≡ true) ↔ (take (length shared.now) self.now ≡ shared.now) }
+        ensures { IsTrue result ↔ (take (length shared.now) self.now ≡ shared.now) }
     {
         let mut k = 0;
         let mut guess = 0;

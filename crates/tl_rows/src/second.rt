@@ -1,8 +1,7 @@
 // The rows of a table by their second value.
 ghost use Rattle.std.specs.Prelude.{◌≡◌, Some, None, IfNone, IfSome, IfOk};
-ghost use Rattle.tl_rows.specs.Second.{exchanged, KeepsWith, KeepsWithout, KeepsMoved};
+ghost use Rattle.tl_rows.specs.Second.{exchanged, KeepsWith, KeepsWithout};
 
-use crate::row_move::Move;
 use crate::runs::{Runs, find_row};
 use crate::shared::MOST;
 use std::alloc::Global;
@@ -39,34 +38,6 @@ pub(crate) fn exchanged(alloc: Global, row: &[Value]) -> Result<Values, NoMemory
     out.extend(&[row[1], row[0]])?;
     out.extend(&row[2..])?;
     Ok(out)
-}
-
-/// The exchanged rows without the row `gone` and with one more.
-#[inline(never)]
-fn moved_second(
-    alloc: Global,
-    rows: &Runs,
-    gone: &[Value],
-    row: &[Value],
-) -> Result<Second, NoMemory>
-    ensures { IfOk result (KeepsMoved (Some rows.now) gone.now row.now) }
-{
-    let out = exchanged(alloc, gone)?;
-    let Ok(cut) = find_row(rows, out.as_slice()) else {
-        return Ok(Second::none());
-    };
-    let other = exchanged(alloc, row)?;
-    match find_row(rows, other.as_slice()) {
-        Ok(_) => Ok(Second::none()),
-        Err(at) => {
-            let step = Move {
-                cut,
-                at,
-                row: other.as_slice(),
-            };
-            Second::of(alloc, rows.moved(alloc, &step)?)
-        }
-    }
 }
 
 impl Second {
@@ -128,21 +99,6 @@ impl Second {
         }
     }
 
-    /// What is kept without the row `gone` and with one more.
-    pub(crate) fn moved(
-        &self,
-        alloc: Global,
-        gone: &[Value],
-        row: &[Value],
-    ) -> Result<Second, NoMemory>
-        ensures { IfOk result (KeepsMoved self.now gone.now row.now) }
-    {
-        match self.rows() {
-            Some(rows) => moved_second(alloc, rows, gone, row),
-            None => Ok(Second::none()),
-        }
-    }
-
     /// What is kept with one more row, which is put into the exchanged rows. Nothing is kept any
     /// more where the row was there.
     pub(crate) fn put_row(self, alloc: Global, row: &[Value]) -> Result<Second, NoMemory>
@@ -180,18 +136,5 @@ impl Second {
             }
             Err(_) => Ok(Second::none()),
         }
-    }
-
-    /// What is kept without the row `gone` and with one more, by edits of the exchanged rows.
-    pub(crate) fn move_row(
-        self,
-        alloc: Global,
-        gone: &[Value],
-        row: &[Value],
-    ) -> Result<Second, NoMemory>
-        ensures { IfOk result (KeepsMoved self gone.now row.now) }
-    {
-        let without = self.cut_row(alloc, gone)?;
-        without.put_row(alloc, row)
     }
 }

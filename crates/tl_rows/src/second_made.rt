@@ -1,7 +1,7 @@
 // The rows of a table by their second value, made anew.
 ghost use Rattle.std.specs.List.Sorted.{IsPermutation};
 ghost use Rattle.std.specs.Ordering.{is_lt};
-ghost use Rattle.std.specs.Prelude.{◌≡◌, ◌<◌, length, map, slice_index_or, true, IfOk, IfSome};
+ghost use Rattle.std.specs.Prelude.{◌≡◌, ◌<◌, length, map, slice_index_or, IfOk, IfSome, IsTrue};
 ghost use Rattle.tl_syntax.specs.Lists.{Rises};
 ghost use Rattle.tl_rows.specs.Second.{exchanged, IsInTurn, IsKept};
 ghost use Rattle.tl_rows.specs.Tables.{row_cmp};
@@ -52,7 +52,7 @@ fn row_at(rows: &[Values], k: usize) -> &[Value]
 /// Whether row `k` comes after the one before it, where there is one.
 fn is_in_turn(rows: &[Values], k: usize) -> bool
     requires { k < length rows.now }
-    ensures { result ≡ true → IsInTurn rows.now k }
+    ensures { IsTrue result → IsInTurn rows.now k }
 {
     k == 0 || is_before(row_at(rows, k - 1), row_at(rows, k))
 }

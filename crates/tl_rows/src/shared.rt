@@ -1,15 +1,12 @@
 // Runs of rows that tables share.
 ghost use Rattle.std.specs.List.{insert, remove};
-ghost use Rattle.std.specs.Prelude.{◌≡◌, ◌≢◌, ◌<◌, ◌≤◌, ◌+◌, ◌^◌, [], ◌++◌, length, map, take, drop, true, false, IfOk, OnErr, OnOk};
+ghost use Rattle.std.specs.Prelude.{◌≡◌, ◌≢◌, ◌<◌, ◌≤◌, ◌+◌, ◌^◌, [], ◌++◌, length, map, take, drop, false, IfOk, OnErr, OnOk, IsTrue};
 ghost use Rattle.std.specs.declared.cmp.Ordering.TheVariants.{Greater};
 ghost use Rattle.tl_rows.specs.Cuts.{HaveWidth};
-ghost use Rattle.tl_rows.specs.Moves.{moved_by};
 ghost use Rattle.tl_rows.specs.Runs.{between, first_row, lowered, raised, rows_in, run_place, AreCounted, BeginsAfter, IsPart, IsPartFor};
 ghost use Rattle.tl_rows.specs.Tables.{row_cmp};
 
-use crate::flat::Flat;
-use crate::guess::Difference;
-use crate::row_move::Move;
+use crate::flat::{COUNTED, Flat};
 use crate::row_search::begins_after;
 use std::alloc::Global;
 use std::marker::Model;
@@ -22,12 +19,6 @@ pub(crate) const MOST: usize = 48;
 /// How many rows a run has at least that is shared. One with fewer is copied, and so joined to the
 /// next.
 pub(crate) const FEWEST: usize = 12;
-
-/// How many runs there are at least, where the one for a row is guessed.
-const MANY: usize = 16;
-
-/// One more than the greatest place that is counted.
-const COUNTED: usize = 9223372036854775808;
 
 /// A run of rows, with the place at which the next one begins.
 #[derive(Drop)]
@@ -102,41 +93,7 @@ fn find_run(runs: &[Run], k: usize, guess: usize) -> usize
     halve_runs(runs, k)
 }
 
-/// A guess for the last run that does not begin after the arguments.
-#[inline(always)]
-fn guess_run_for(runs: &[Run], args: &[Value]) -> usize
-    requires counted { AreCounted 0 runs.now }
-    requires some { 0 < length runs.now }
-{
-    let steps = runs.len() - 1;
-    let first = runs[0].rows.as_ref().row(0);
-    let last = runs[steps].rows.as_ref().row(0);
-    let Some(apart) = Difference::of(first, last) else {
-        return 0;
-    };
-    match args.get(apart.column) {
-        Some(v) => apart.steps_to(*v, steps),
-        None => 0,
-    }
-}
-
-/// The guess, where it lies between the two places, and else the middle of them.
-#[inline(always)]
-fn look_between(low: usize, high: usize, guess: usize) -> usize
-    requires { low + 1 < high }
-    ensures low { low < result }
-    ensures high { result < high }
-{
-    if low < guess && guess < high {
-        guess
-    } else {
-        low + (high - low) / 2
-    }
-}
-
-/// The last run that does not begin after the arguments, or else the first one, found by halves. Of
-/// many runs those at growing distances from a guess are looked at before (exponential search,
-/// Bentley and Yao 1976).
+/// The last run that does not begin after the arguments, or else the first one, found by halves.
 fn find_run_for(runs: &[Run], args: &[Value]) -> usize
     requires counted { AreCounted 0 runs.now }
     requires some { 0 < length runs.now }
@@ -146,21 +103,12 @@ fn find_run_for(runs: &[Run], args: &[Value]) -> usize
 {
     let mut low = 0;
     let mut high = runs.len();
-    let mut guess = 0;
-    let mut step = high;
-    if high >= MANY {
-        guess = guess_run_for(runs, args);
-        step = 0;
-    }
     while low + 1 < high {
-        let at = look_between(low, high, guess);
-        step = step.saturating_mul(2).saturating_add(1);
-        if begins_after(runs[at].rows.as_ref(), args) {
-            high = at;
-            guess = at.saturating_sub(step);
+        let middle = low + (high - low) / 2;
+        if begins_after(runs[middle].rows.as_ref(), args) {
+            high = middle;
         } else {
-            low = at;
-            guess = at.saturating_add(step);
+            low = middle;
         }
     }
     low
@@ -169,7 +117,7 @@ fn find_run_for(runs: &[Run], args: &[Value]) -> usize
 /// Whether the run ends at the place or before and has rows enough to be shared.
 #[inline]
 fn is_whole(run: &Run, to: usize) -> bool
-    ensures { result ≡ true → run.now.end ≤ to }
+    ensures { IsTrue result → run.now.end ≤ to }
 {
     run.end <= to && run.rows.len() >= FEWEST
 }
@@ -214,29 +162,6 @@ fn put_in_run(alloc: Global, run: &mut Run, k: usize, row: &[Value]) -> Result<(
     }
 }
 
-/// Puts one row of the run in the place of another, in place where no other table shares the run.
-/// After a failure its rows are those of before.
-fn move_in_run(alloc: Global, run: &mut Run, step: &Move<'_>) -> Result<(), NoMemory>
-    requires cut { step.now.cut < length run.old.rows.value }
-    requires at { step.now.at ≤ length run.old.rows.value }
-    requires fits { HaveWidth (length step.now.row.now) run.old.rows.value }
-    ensures end { run.new.end ≡ run.old.end }
-    ensures all { OnOk result (run.new.rows.value ≡ moved_by run.old.rows.value step.now) }
-    ensures same { OnErr result (run.new.rows.value ≡ run.old.rows.value) }
-{
-    match Rc::get_mut(&mut run.rows) {
-        Some(rows) => {
-            rows.move_row(step);
-            Ok(())
-        }
-        None => {
-            let rows = run.rows.moved(alloc, step)?;
-            run.rows = Rc::new(alloc, rows)?;
-            Ok(())
-        }
-    }
-}
-
 /// One less at each of the ends from run `i` on.
 fn lower_ends(runs: &mut Vec<Run>, i: usize)
     requires { i ≤ length runs.old.items }
@@ -266,7 +191,7 @@ impl Shared {
     /// the rows are those of before.
     pub(crate) fn cut_row(&mut self, alloc: Global, k: usize) -> Result<bool, NoMemory>
         requires { k < length self.old }
-        ensures all { IfOk result (λ b. b ≡ true → self.new ≡ remove self.old k) }
+        ensures all { IfOk result (λ b. IsTrue b → self.new ≡ remove self.old k) }
         ensures none { IfOk result (λ b. b ≡ false → self.new ≡ self.old) }
         ensures same { OnErr result (self.new ≡ self.old) }
     {
@@ -289,7 +214,7 @@ impl Shared {
         row: &[Value],
     ) -> Result<bool, NoMemory>
         requires { k < length self.old }
-        ensures all { IfOk result (λ b. b ≡ true → self.new ≡ insert self.old k row.now) }
+        ensures all { IfOk result (λ b. IsTrue b → self.new ≡ insert self.old k row.now) }
         ensures none { IfOk result (λ b. b ≡ false → self.new ≡ self.old) }
         ensures same { OnErr result (self.new ≡ self.old) }
     {
@@ -303,26 +228,6 @@ impl Shared {
         }
         put_in_run(alloc, &mut self.runs[i], k - from, row)?;
         raise_ends(&mut self.runs, i);
-        Ok(true)
-    }
-
-    /// Puts one row in the place of another, where both are in one run: whether they are. After a
-    /// failure the rows are those of before.
-    pub(crate) fn move_row(&mut self, alloc: Global, step: &Move<'_>) -> Result<bool, NoMemory>
-        requires { step.now.cut < length self.old }
-        ensures all { IfOk result (λ b. b ≡ true → self.new ≡ moved_by self.old step.now) }
-        ensures none { IfOk result (λ b. b ≡ false → self.new ≡ self.old) }
-        ensures same { OnErr result (self.new ≡ self.old) }
-    {
-        let i = find_run(self.runs.as_slice(), step.cut, step.cut / MOST);
-        let from = begin(self.runs.as_slice(), i);
-        if step.at < from || step.at > self.runs[i].end {
-            return Ok(false);
-        }
-        if !self.runs[i].rows.takes(step.row.len()) {
-            return Ok(false);
-        }
-        move_in_run(alloc, &mut self.runs[i], &step.among(from))?;
         Ok(true)
     }
 }

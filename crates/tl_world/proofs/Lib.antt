@@ -11,5 +11,5 @@ pub mod Orders
 pub mod Contents
 pub mod GoalTests
 pub mod Lacking
-pub mod Beside
+pub mod Taken
 pub mod Falling

@@ -1,9 +1,8 @@
 -- What edits of tables make of their facts and places.
-use Rattle.std.specs.Prelude.{◌≡◌, ℕ, List, [], ◌∷◌, map, Bool, true, false, IfOk}
-use Rattle.std.specs.declared.result.Result.{Result}
+use Rattle.std.specs.Prelude.{◌≡◌, List, map, Bool}
 use Rattle.std.specs.FinMap as dict
 use Rattle.std.specs.FinSet as set
-use Rattle.std.specs.List.{insert, list_any, remove}
+use Rattle.std.specs.List.{list_any}
 use Rattle.std.specs.Ordering.{eq_by_cmp}
 use Rattle.tl_syntax.specs.declared.fact.Fact.{Fact}
 use Rattle.tl_syntax.specs.declared.place_value.PlaceValue.{PlaceValue}
@@ -12,24 +11,19 @@ use Rattle.tl_syntax.specs.Keys.{Key, key_cmp, fact_key, place_entry}
 use Rattle.tl_terms.specs.Step.{with_all, without_all, overwritten}
 use Rattle.tl_rows.specs.declared.named.Named.{Named}
 use Rattle.tl_rows.specs.declared.table.PlaceRow.{PlaceRow}
-use Rattle.tl_world.specs.Moves.{AreSameBeside, changed_facts}
 use Rattle.tl_rows.specs.Tables.{facts_of, places_of}
 
--- the items with another one at place i
-abbrev pub put_at : {X : Type 0} → List X → ℕ → X → List X
-put_at xs i x = insert (remove xs i) i x
-
--- the tables have the same facts without this one, but for those of a list
-abbrev pub LosesFact : List Fact → Fact → List (Named (List (List Value))) → List (Named (List (List Value))) → Type 0
-LosesFact beside f old new = AreSameBeside beside (facts_of new) (set.remove (facts_of old) (fact_key f))
+-- the tables have the same facts without this one
+abbrev pub LosesFact : Fact → List (Named (List (List Value))) → List (Named (List (List Value))) → Type 0
+LosesFact f old new = facts_of new ≡ set.remove (facts_of old) (fact_key f)
 
 -- and so without some facts
-abbrev pub LosesFacts : List Fact → List Fact → List (Named (List (List Value))) → List (Named (List (List Value))) → Type 0
-LosesFacts beside dels old new = AreSameBeside beside (facts_of new) (without_all (facts_of old) (map fact_key dels))
+abbrev pub LosesFacts : List Fact → List (Named (List (List Value))) → List (Named (List (List Value))) → Type 0
+LosesFacts dels old new = facts_of new ≡ without_all (facts_of old) (map fact_key dels)
 
--- a test that none of the facts passes, none of the few passes
-abbrev pub AreSomeOf : List Fact → List Fact → Type 0
-AreSomeOf facts few = (test : Fact → Bool) → list_any test facts ≡ false → list_any test few ≡ false
+-- the facts without some and then with others
+abbrev pub changed_facts : set.FinSet key_cmp → List Fact → List Fact → set.FinSet key_cmp
+changed_facts s dels adds = with_all (without_all s (map fact_key dels)) (map fact_key adds)
 
 -- the places with the values that are set; of two for one place the earlier counts
 abbrev pub changed_places : dict.FinMap key_cmp Value → List PlaceValue → dict.FinMap key_cmp Value
@@ -54,14 +48,6 @@ SetsPlace q v old new = places_of new ≡ dict.insert (places_of old) q v
 -- the tables have the same values, but for the places that are set
 abbrev pub SetsPlaces : List PlaceValue → List (Named (List PlaceRow)) → List (Named (List PlaceRow)) → Type 0
 SetsPlaces sets old new = places_of new ≡ changed_places (places_of old) sets
-
--- the tables have the same facts without one and then with another
-abbrev pub IsReplaced : Fact → Fact → List (Named (List (List Value))) → List (Named (List (List Value))) → Type 0
-IsReplaced gone fact old new = AreChangedBy (gone ∷ []) (fact ∷ []) old new
-
--- this holds where the answer is yes
-abbrev pub OnTrue : {E : Type 0} → Result Bool E → Type 0 → Type 0
-OnTrue answer P = IfOk answer (λ b. b ≡ true → P)
 
 -- whether this fact is one of them
 abbrev pub lists_fact : List Fact → Key → Bool

@@ -2,7 +2,6 @@ pub mod View
 pub mod WorldCode
 pub mod Gathered
 pub mod MatchReading
-pub mod Moves
 pub mod Falling
 pub mod Edits
 pub mod Calls

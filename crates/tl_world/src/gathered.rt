@@ -1,7 +1,7 @@
 // The tuples of a pattern, gathered in one pass and sorted, where its variables stand against the
 // order of the rows.
 ghost use Rattle.std.specs.List.Sorted.{IsPermutation};
-ghost use Rattle.std.specs.Prelude.{◌≡◌, ◌<◌, ◌≤◌, ◌+◌, ℕ, length, map, slice_get, true, false, IfOk, IfSome, OnOk};
+ghost use Rattle.std.specs.Prelude.{◌≡◌, ◌<◌, ◌≤◌, ◌+◌, ℕ, length, map, slice_get, false, IfOk, IfSome, OnOk, IsTrue};
 ghost use Rattle.tl_syntax.specs.Lists.{Rises};
 ghost use Rattle.tl_match.specs.Fits.{occurs};
 ghost use Rattle.tl_world.specs.Gathered.{with_match, AreMatches, AreTuplesOf, HasAllTuples};
@@ -65,7 +65,7 @@ fn tuples_of_rows(
     free: u32,
 ) -> Result<Vec<Values>, NoMemory>
     requires few { free ≤ 9 }
-    requires each { (n : ℕ) → n < free → occurs n parts.now ≡ true }
+    requires each { (n : ℕ) → n < free → IsTrue (occurs n parts.now) }
     requires order { Rises row_cmp rows.now }
     ensures { IfOk result (λ v. AreTuplesOf free parts.now rows.now v.items) }
 {
@@ -98,7 +98,7 @@ fn tuples_of_places(
     free: u32,
 ) -> Result<Vec<Values>, NoMemory>
     requires few { free ≤ 9 }
-    requires each { (n : ℕ) → n < free → occurs n parts.now ≡ true }
+    requires each { (n : ℕ) → n < free → IsTrue (occurs n parts.now) }
     requires short { length parts.now ≤ 9 }
     requires some { 1 ≤ length parts.now }
     requires order { Rises row_cmp (map (λ r. r.args) rows.now) }
@@ -141,7 +141,7 @@ fn tuples_of_facts(world: &World, pattern: &Pattern) -> Result<Option<Vec<Values
 /// among many places.
 fn tuples_with_values(world: &World, pattern: &Pattern) -> Result<Option<Vec<Values>>, NoMemory>
     requires pattern { IsLawful pattern.now }
-    requires place { pattern.now.place ≡ true }
+    requires place { IsTrue pattern.now.place }
     ensures { IfOk result (λ o. IfSome o (λ v. HasAllTuples world.now pattern.now v.items)) }
 {
     let Some(rows) = world.places(pattern.name) else {
@@ -178,8 +178,8 @@ fn sorted(tuples: Vec<Values>) -> Vec<Values>
     out
 }
 
-/// All tuples of the pattern, each after the one before it, where they may be gathered and each next
-/// one would be looked for among many rows.
+/// All tuples of the pattern, each after the one before it, where they may be gathered and each
+/// next one would be looked for among many rows.
 #[inline(never)]
 pub(crate) fn gathered(world: &World, pattern: &Pattern, may: bool) -> Result<Second, NoMemory>
     requires { IsLawful pattern.now }
@@ -201,8 +201,8 @@ pub(crate) fn put_tuple(tuples: &Runs, free: u32, place: &mut usize, tuple: &mut
     requires few { free ≤ 9 }
     requires size { IfSome (slice_get tuples.now place.old) (λ t. length t ≡ free) }
     ensures tuple { tuple_in_place result tuple.new ≡ slice_get tuples.now place.old }
-    ensures len { result ≡ true → tuple.new.len ≡ free }
-    ensures place { result ≡ true → place.new ≡ place.old + 1 }
+    ensures len { IsTrue result → tuple.new.len ≡ free }
+    ensures place { IsTrue result → place.new ≡ place.old + 1 }
 {
     if *place >= tuples.len() {
         return false;

@@ -1,5 +1,5 @@
 // The matches of a pattern in a world, one after another.
-ghost use Rattle.std.specs.Prelude.{◌≡◌, ◌≤◌, [], length, true, false, None, Some, IsSome, IfSome};
+ghost use Rattle.std.specs.Prelude.{◌≡◌, ◌≤◌, [], length, true, false, None, Some, IsSome, IfSome, IsTrue};
 ghost use Rattle.tl_syntax.specs.Lists.{Rises};
 ghost use Rattle.tl_match.specs.Front.{front, are_in_turn, IsFirstKept};
 ghost use Rattle.tl_world.specs.MatchReading.{HasLaterOf, PutsNextOf, ReadsAll, ReadsOn, pattern_if};
@@ -10,7 +10,7 @@ use crate::World;
 use crate::gathered::{gathered, put_tuple};
 use std::marker::Model;
 use tl_match::{
-    Match, Part, Pattern, are_in_turn, is_in_second_order, put_first, rows_before_near,
+    MOST_PARTS, Match, Part, Pattern, are_in_turn, is_in_second_order, put_first, rows_before_near,
 };
 use tl_rows::{Runs, Second};
 use tl_syntax::Value;
@@ -63,13 +63,13 @@ fn put_next_from(
     place: &mut usize,
 ) -> bool
     requires pattern { IsLawful pattern.now }
-    requires turn { are_in_turn 0 (parts_of pattern.now) ≡ true }
+    requires turn { IsTrue (are_in_turn 0 (parts_of pattern.now)) }
     requires order { Rises row_cmp rows.now }
     requires bound { place.old ≤ length rows.now }
     requires later { HasLaterOf pattern.now begun tuple.old rows.now place.old }
     ensures puts { PutsNextOf pattern.now rows.now begun tuple.old result tuple.new }
-    ensures bound { result ≡ true → place.new ≤ length rows.now }
-    ensures later { result ≡ true → HasLaterOf pattern.now true tuple.new rows.now place.new }
+    ensures bound { IsTrue result → place.new ≤ length rows.now }
+    ensures later { IsTrue result → HasLaterOf pattern.now true tuple.new rows.now place.new }
 {
     let _ = tuple.room();
     let parts = &pattern.parts[..pattern.len as usize];
@@ -86,7 +86,7 @@ fn put_next_from(
 /// Whether the first part is free, so that no leading values are fixed.
 #[inline]
 fn begins_free(parts: &[Part]) -> bool
-    ensures { result ≡ true → front 0 parts.now [] ≡ [] }
+    ensures { IsTrue result → front 0 parts.now [] ≡ [] }
 {
     if parts.is_empty() {
         return false;
@@ -152,7 +152,7 @@ impl<'a> MatchReader<'a> {
         counts: bool,
         gathers: bool,
     ) -> MatchReader<'a>
-        requires { counts ≡ true → IsLawful pattern.now }
+        requires { IsTrue counts → IsLawful pattern.now }
         ensures world { result.world ≡ world.now }
         ensures pattern { result.pattern ≡ pattern_if counts pattern.now }
         ensures before { result.tuple ≡ None }
@@ -165,7 +165,7 @@ impl<'a> MatchReader<'a> {
             gathers,
             place: 0,
             tuple: Match {
-                values: [Value::Int(0); 9],
+                values: [Value::Int(0); MOST_PARTS],
                 len: 0,
             },
             has_pattern: counts,
@@ -209,7 +209,7 @@ impl<'a> MatchReader<'a> {
     #[inline(never)]
     pub fn next(&mut self) -> bool
         ensures next { ReadsOn self.old self.new }
-        ensures found { result ≡ true → IsSome self.new.tuple }
+        ensures found { IsTrue result → IsSome self.new.tuple }
         ensures end { result ≡ false → self.new.tuple ≡ None }
     {
         self.find_place();

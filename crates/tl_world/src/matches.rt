@@ -1,11 +1,11 @@
 // The tuples that make a pattern true in a world, one after another.
 ghost use Rattle.std.specs.Option.{option_map};
-ghost use Rattle.std.specs.Prelude.{◌≡◌, true, false, IfSome};
+ghost use Rattle.std.specs.Prelude.{◌≡◌, true, false, IfSome, IsTrue};
 ghost use Rattle.tl_match.specs.Next.{IsNext, PutsNextMatch, PutsNextOf};
 ghost use Rattle.tl_match.specs.Patterns.{IsLawful, makes_true, tuple_of};
 
 use crate::World;
-use tl_match::{Match, Pattern, put_next_in_places, put_next_in_table};
+use tl_match::{MOST_PARTS, Match, Pattern, put_next_in_places, put_next_in_table};
 use tl_syntax::Value;
 
 impl World {
@@ -20,7 +20,7 @@ impl World {
     {
         let begun = after.is_some();
         let mut tuple = after.unwrap_or(Match {
-            values: [Value::Sym(0); 9],
+            values: [Value::Sym(0); MOST_PARTS],
             len: 0,
         });
         let mut near = 0;
@@ -43,9 +43,9 @@ impl World {
         near: &mut usize,
     ) -> bool
         requires pattern { IsLawful pattern.now }
-        requires before { begun ≡ true → tuple.old.len ≡ pattern.now.free }
+        requires before { IsTrue begun → tuple.old.len ≡ pattern.now.free }
         ensures next { PutsNextMatch self.now pattern.now begun tuple.old result tuple.new }
-        ensures len { result ≡ true → tuple.new.len ≡ pattern.now.free }
+        ensures len { IsTrue result → tuple.new.len ≡ pattern.now.free }
     {
         if pattern.place {
             self.put_next_place(pattern, begun, tuple, near)
@@ -84,7 +84,7 @@ impl World {
         near: &mut usize,
     ) -> bool
         requires pattern { IsLawful pattern.now }
-        requires place { pattern.now.place ≡ true }
+        requires place { IsTrue pattern.now.place }
         ensures { PutsNextOf self.now true pattern.now begun tuple.old result tuple.new }
     {
         match self.places(pattern.name) {

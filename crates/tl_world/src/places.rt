@@ -8,6 +8,7 @@ ghost use Rattle.tl_world.specs.Falling.{is_above};
 ghost use Rattle.tl_rows.specs.Places.{place_set, GainsPlaceAt};
 ghost use Rattle.tl_rows.specs.Tables.{InOrder, place_tables, row_cmp};
 
+use crate::facts::MANY;
 use std::alloc::Global;
 use std::cmp::Ordering;
 use std::rc::Rc;
@@ -159,7 +160,7 @@ pub(crate) fn change_places(
     ensures order { OnOk result (InOrder (place_tables tables.new.items)) }
     ensures places { OnOk result (SetsPlaces sets.now tables.old.items tables.new.items) }
 {
-    if sets.len() < 8 {
+    if sets.len() < MANY {
         with_places(alloc, tables, sets)
     } else {
         let sorted = falling(alloc, sets)?;

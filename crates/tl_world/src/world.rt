@@ -3,7 +3,7 @@ ghost use Rattle.std.specs.FinMap as dict;
 ghost use Rattle.std.specs.FinSet as set;
 ghost use Rattle.std.specs.Hash.{same_Alike};
 ghost use Rattle.std.specs.List.{list_all};
-ghost use Rattle.std.specs.Prelude.{◌≡◌, ◌↔◌, ◌<◌, List, [], map, length, not, true, false, Some, None, IfNone, IfSome, IfOk};
+ghost use Rattle.std.specs.Prelude.{◌≡◌, ◌↔◌, ◌<◌, List, [], map, length, not, false, Some, None, IfNone, IfSome, IfOk, IsTrue};
 ghost use Rattle.tl_syntax.proofs.Telling.{tells-partial, tells-equivalence};
 ghost use Rattle.tl_syntax.specs.Lists.{Among, Rises};
 ghost use Rattle.tl_terms.proofs.SameWorlds.{world-tells};
@@ -14,8 +14,7 @@ ghost use Rattle.tl_world.specs.Calls.{gives_entry, gives_row, gives_table, has_
 ghost use Rattle.tl_rows.specs.Codes.{tables_code};
 ghost use Rattle.tl_rows.specs.Tables.{InOrder, fact_tables, place_tables, set_of, map_of, row_cmp};
 ghost use Rattle.tl_world.specs.WorldCode.{world_fed};
-ghost use Rattle.tl_world.specs.Edits.{changed_places};
-ghost use Rattle.tl_world.specs.Moves.{changed_facts};
+ghost use Rattle.tl_world.specs.Edits.{changed_facts, changed_places};
 
 use crate::facts::change_facts;
 use crate::places::{change_places, find_place};
@@ -174,7 +173,7 @@ impl World {
     /// It takes no memory.
     pub fn rows(&self, pred: u32) -> Option<&Rows>
         ensures none { IfNone result ((a : List _) → has_fact self.now (pred, a) ≡ false) }
-        ensures facts { IfSome result (λ r. (a : List _) → Among a r.now ↔ (has_fact self.now (pred, a) ≡ true)) }
+        ensures facts { IfSome result (λ r. (a : List _) → Among a r.now ↔ IsTrue (has_fact self.now (pred, a))) }
         ensures order { IfSome result (λ r. Rises row_cmp r.now) }
         ensures filled { IfSome result (λ r. 0 < length r.now) }
     {

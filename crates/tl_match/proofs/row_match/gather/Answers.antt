@@ -6,18 +6,18 @@ use Rattle.tl_match.proofs.Matching.{known-fixed, known-past, known-free, known-
 use Rattle.std.proofs.Math.Seq.{drop-length}
 use Rattle.tl_match.proofs.row_match.gather.Goals as goal
 
-pub loop-k-preserved-then-n-lt9 : goal.loop-k-preserved-then-n-lt9
-loop-k-preserved-then-n-lt9 c = record {
+pub loop-k-preserved-then-n-lt-MOST_PARTS : goal.loop-k-preserved-then-n-lt-MOST_PARTS
+loop-k-preserved-then-n-lt-MOST_PARTS c = record {
   within = omega (arith, c.loop-k.invariant.within);
   size = search rules;
-  known = known-step c.args.parts.now c.args.row.now c.loop-k.values _ _ c.loop-k.k (Free c.in-Free.n) _ _ _ (omega arith) c.loop-k.invariant.within c.requires c.in-Free.is refl (known-free c.in-Free.n _ _ _ c.loop-k.values c.loop-k.invariant.size c.if-n-lt9.true) c.loop-k.invariant.known;
+  known = known-step c.args.parts.now c.args.row.now c.loop-k.values _ _ c.loop-k.k (Free c.in-Free.n) _ _ _ (omega arith) c.loop-k.invariant.within c.requires c.in-Free.is refl (known-free c.in-Free.n _ _ _ c.loop-k.values c.loop-k.invariant.size c.if-n-lt-MOST_PARTS.true) c.loop-k.invariant.known;
 }
 
-pub loop-k-preserved-else-n-lt9 : goal.loop-k-preserved-else-n-lt9
-loop-k-preserved-else-n-lt9 c = record {
+pub loop-k-preserved-else-n-lt-MOST_PARTS : goal.loop-k-preserved-else-n-lt-MOST_PARTS
+loop-k-preserved-else-n-lt-MOST_PARTS c = record {
   within = omega (arith, c.loop-k.invariant.within);
   size = c.loop-k.invariant.size;
-  known = known-step c.args.parts.now c.args.row.now c.loop-k.values c.loop-k.values _ c.loop-k.k (Free c.in-Free.n) _ _ (Int (pos 0)) (omega arith) c.loop-k.invariant.within c.requires c.in-Free.is refl (known-past c.in-Free.n _ _ _ c.loop-k.values c.if-n-lt9.false) c.loop-k.invariant.known;
+  known = known-step c.args.parts.now c.args.row.now c.loop-k.values c.loop-k.values _ c.loop-k.k (Free c.in-Free.n) _ _ (Int (pos 0)) (omega arith) c.loop-k.invariant.within c.requires c.in-Free.is refl (known-past c.in-Free.n _ _ _ c.loop-k.values c.if-n-lt-MOST_PARTS.false) c.loop-k.invariant.known;
 }
 
 pub loop-k-preserved : goal.loop-k-preserved

@@ -7,7 +7,7 @@ use Rattle.tl_syntax.specs.declared.value.Value.{Value}
 use Rattle.tl_syntax.specs.Keys.{key_cmp}
 use Rattle.tl_rows.specs.declared.named.Named.{Named}
 use Rattle.tl_rows.specs.Tables.{InOrder, fact_row, fact_table, fact_tables, entries_of, set_of}
-use Rattle.tl_world.proofs.Beside.{set-edit}
+use Rattle.tl_world.proofs.Taken.{set-edit}
 use Rattle.tl_world.proofs.Change as change
 use Rattle.tl_rows.proofs.Going.{on-ok}
 use Rattle.tl_rows.proofs.Lookup.{at-table}

@@ -8,7 +8,7 @@ use Rattle.tl_rows.specs.declared.named.Named.{Named}
 use Rattle.tl_rows.specs.Tables.{row_cmp, InOrder, place_row, place_tables, entries_of}
 use Rattle.tl_world.specs.Edits.{SetsPlace}
 use Rattle.tl_rows.specs.Places.{place_set}
-use Rattle.tl_world.proofs.Beside.{set-edit}
+use Rattle.tl_world.proofs.Taken.{set-edit}
 use Rattle.tl_world.proofs.Change as change
 use Rattle.tl_world.proofs.Edits.{replace-put}
 use Rattle.tl_rows.proofs.Going.{on-ok}

@@ -1,5 +1,5 @@
 use Rattle.std.proofs.Common.{sym, subst}
-use Rattle.tl_rows.proofs.Moving.{code-added}
+use Rattle.tl_rows.proofs.RowCodes.{code-added}
 use Rattle.tl_rows.specs.Second.{IsKept}
 use Rattle.tl_rows.proofs.rows.Rows.put_row.Goals as goal
 

@@ -1,6 +1,6 @@
 use Rattle.std.proofs.Common.{sym, ap, ◌∙◌, subst}
 use Rattle.std.specs.List.{insert}
-use Rattle.tl_rows.proofs.Moving.{code-added}
+use Rattle.tl_rows.proofs.RowCodes.{code-added}
 use Rattle.tl_rows.specs.Second.{IsKept}
 use Rattle.tl_rows.proofs.rows.Rows.with.Goals as goal
 

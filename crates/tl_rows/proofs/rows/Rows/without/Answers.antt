@@ -1,6 +1,6 @@
 use Rattle.std.proofs.Common.{◌<◌, ◌≤◌, ◌^◌, length, sym, ap, ◌∙◌, subst, arith, rules}
 use Rattle.std.specs.List.{remove}
-use Rattle.tl_rows.proofs.Moving.{code-removed}
+use Rattle.tl_rows.proofs.RowCodes.{code-removed}
 use Rattle.tl_rows.specs.Second.{IsKept}
 use Rattle.tl_rows.proofs.rows.Rows.without.Goals as goal
 
