@@ -12,7 +12,7 @@ ghost use Rattle.tl_rows.specs.Tables.{whole_row};
 use crate::World;
 use std::alloc::Global;
 use tl_match::{
-    Match, Part, Pattern, is_in_second_order, match_place, match_row, order_of_front,
+    Match, Part, Pattern, are_in_turn, is_in_second_order, match_place, match_row, order_of_front,
     places_before, rows_before,
 };
 use tl_rows::{PlaceRows, Runs, Second, in_order};
@@ -20,17 +20,6 @@ use tl_syntax::{NoMemory, Values};
 
 /// How many rows are looked at for each next match, and not gathered.
 const FEW: usize = 8;
-
-/// Whether the first free part is for another variable than the first one, so that each next match
-/// is looked for among all rows with the fixed leading values.
-fn is_against_order(parts: &[Part]) -> bool {
-    for part in parts {
-        if let Part::Free(n) = part {
-            return *n > 0;
-        }
-    }
-    false
-}
 
 /// Adds the values of the match, where there is one.
 fn push_match(
@@ -160,7 +149,7 @@ fn all_tuples(world: &World, pattern: &Pattern) -> Result<Option<Vec<Values>>, N
     requires { IsLawful pattern.now }
     ensures { IfOk result (λ o. IfSome o (λ v. HasAllTuples world.now pattern.now v.items)) }
 {
-    if !is_against_order(&pattern.parts[..pattern.len as usize]) {
+    if are_in_turn(&pattern.parts[..pattern.len as usize]) {
         Ok(None)
     } else if pattern.place {
         tuples_with_values(world, pattern)
