@@ -1,5 +1,6 @@
 -- A chain of next tuples has all that pass the test, in order.
-use Rattle.std.proofs.Common.{◌≡◌, ◌↔◌, ℕ, List, [], ◌∷◌, length, Bool, true, false, ◌&&◌, true≢false, Option, Some, None, Ordering, Less, Equal, Greater, refl, sym, ap, ◌∙◌, subst, inl, inr, take}
+use Rattle.std.proofs.Common.{◌≡◌, ◌↔◌, ℕ, List, [], ◌∷◌, length, Bool, true, false, ◌&&◌, true≢false, Option, Some, None, Ordering, Less}
+use Rattle.std.proofs.Common.{Equal, Greater, refl, sym, ap, ◌∙◌, subst, inl, inr, take}
 use Rattle.std.specs.Option.{option_map, IfSome}
 use Rattle.std.specs.Ordering.{is_lt, is_gt}
 use Rattle.tl_syntax.specs.declared.value.Value.{Value}
@@ -19,7 +20,8 @@ module _ (k : ℕ) (test : List Value → Bool) where
   further None m t a l = tt
   further (Some x) m t a l = row_total.trans x m t a l
 
-  chain-has : (after : Option (List Value)) (ts : List (List Value)) → IsChain k test after ts → (t : List Value) → Among t ts ↔ IsLater k test after t
+  chain-has : (after : Option (List Value)) (ts : List (List Value)) → IsChain k test after ts → (t : List Value) → Among t ts ↔
+      IsLater k test after t
   chain-has after [] c t = (λ h. absurd h, λ h. c t h)
   chain-has after (m ∷ ts) c t = (
     λ h. elim h [
@@ -35,7 +37,10 @@ module _ (k : ℕ) (test : List Value → Bool) where
 
   chain-rises : (after : Option (List Value)) (ts : List (List Value)) → IsChain k test after ts → Rises row_cmp ts
   chain-rises after [] c = tt
-  chain-rises after (m ∷ ts) c = ((Each-Among (λ y. row_cmp m y ≡ Less) ts).1 (λ y n. ((chain-has (Some m) ts c.1 y).0 n).2), chain-rises (Some m) ts c.1)
+  chain-rises after (m ∷ ts) c = (
+    (Each-Among (λ y. row_cmp m y ≡ Less) ts).1 (λ y n. ((chain-has (Some m) ts c.1 y).0 n).2),
+    chain-rises (Some m) ts c.1,
+  )
 
 pub chain-has-all : ChainHasAllMatches
 chain-has-all w p ts c = (
@@ -48,7 +53,8 @@ less-is Less h = refl
 less-is Equal h = absurd (true≢false (sym h))
 less-is Greater h = absurd (true≢false (sym h))
 
-above-after : (k : ℕ) (after : Option Match) → IfSome after (λ m. m.len ≡ k) → (t : List Value) → (above after k t ≡ true) ↔ IsAfter (option_map tuple_of after) t
+above-after : (k : ℕ) (after : Option Match) → IfSome after (λ m. m.len ≡ k) → (t : List Value) → (above after k t ≡ true) ↔
+    IsAfter (option_map tuple_of after) t
 above-after k None size t = (λ _. tt, λ _. refl)
 above-after k (Some a) size t = (
   λ h. subst (λ n. row_cmp (take n a.values) t ≡ Less) (sym size) (less-is _ h),
@@ -56,7 +62,8 @@ above-after k (Some a) size t = (
 )
 
 -- the least that passes the test and stands above is the next one
-pub next-least : (k : ℕ) (test : List Value → Bool) (after result : Option Match) → IfSome after (λ m. m.len ≡ k) → IsLeast k (λ t. test t && above after k t) result → IsNext k test (option_map tuple_of after) (option_map tuple_of result)
+pub next-least : (k : ℕ) (test : List Value → Bool) (after result : Option Match) → IfSome after (λ m. m.len ≡ k) →
+    IsLeast k (λ t. test t && above after k t) result → IsNext k test (option_map tuple_of after) (option_map tuple_of result)
 unfolding IsLeast
 next-least k test after None size least = λ t l. true≢false (sym (with_both l.1 ((above-after k after size t).1 l.2)) ∙ least t l.0)
 next-least k test after (Some m) size least =
@@ -80,10 +87,15 @@ size-in-place k true m h = h refl
 size-in-place k false m h = tt
 
 -- so with a tuple that is put in place of another
-pub next-in-place : (k : ℕ) (test : List Value → Bool) (begun : Bool) (before : Match) (result : Bool) (after : Match) → (begun ≡ true → before.len ≡ k)
-    → IsLeast k (λ t. test t && above (match_in_place begun before) k t) (match_in_place result after) → IsNext k test (tuple_in_place begun before) (tuple_in_place result after)
+pub next-in-place : (k : ℕ) (test : List Value → Bool) (begun : Bool) (before : Match) (result : Bool) (after : Match) →
+    (begun ≡ true → before.len ≡ k)
+    → IsLeast k (λ t. test t && above (match_in_place begun before) k t) (match_in_place result after) →
+    IsNext k test (tuple_in_place begun before) (tuple_in_place result after)
 next-in-place k test begun before result after size least =
-    subst (λ a. IsNext k test a (tuple_in_place result after)) (in-place begun before) (subst (λ r. IsNext k test (option_map tuple_of (match_in_place begun before)) r) (in-place result after) (next-least k test (match_in_place begun before) (match_in_place result after) (size-in-place k begun before size) least))
+    subst (λ a. IsNext k test a (tuple_in_place result after)) (in-place begun before)
+    (subst (λ r. IsNext k test (option_map tuple_of (match_in_place begun before)) r) (in-place result after)
+    (next-least k test (match_in_place begun before) (match_in_place result after) (size-in-place k begun before size) least))
 
-pub size-of-next : (k : ℕ) (c : List Value → Bool) (result : Bool) (m : Match) → IsLeast k c (match_in_place result m) → result ≡ true → m.len ≡ k
+pub size-of-next : (k : ℕ) (c : List Value → Bool) (result : Bool) (m : Match) → IsLeast k c (match_in_place result m) → result ≡ true →
+    m.len ≡ k
 size-of-next k c result m least is = least-size k c (Some m) (subst (λ b. IsLeast k c (match_in_place b m)) is least)

@@ -54,13 +54,16 @@ some-is (suc n) p = refl
 any-counted : {X : Type 0} (p : X → Bool) (xs : List X) → list_any p xs ≡ is-some (sum_by (λ x. cond (p x) 1 0) xs)
 any-counted p [] = refl
 any-counted p (x ∷ xs) = (elim (p x) as (λ b. p x ≡ b → (b || list_any p xs) ≡ is-some (sum_by (λ y. cond (p y) 1 0) (x ∷ xs))) [
-  | true ↦ λ e. let s = sum_by-cons (λ y. cond (p y) 1 0) x xs in let one : cond {A = ℕ} (p x) 1 0 ≡ 1 = ap (λ b. cond b 1 0) e in some-is _ (omega (arith, s, one))
+  | true ↦ λ e. let s = sum_by-cons (λ y. cond (p y) 1 0) x xs in let one : cond {A = ℕ} (p x) 1 0 ≡ 1 = ap (λ b. cond b 1 0) e in
+      some-is _ (omega (arith, s, one))
   | false ↦ λ e. let s = sum_by-cons (λ y. cond (p y) 1 0) x xs in let none : cond {A = ℕ} (p x) 1 0 ≡ 0 = ap (λ b. cond b 1 0) e in
-      any-counted p xs ∙ ap is-some (let q : sum_by (λ y. cond (p y) 1 0) xs ≡ sum_by (λ y. cond (p y) 1 0) (x ∷ xs) = omega (arith, s, none) in q)
+      any-counted p xs ∙ ap is-some (let q : sum_by (λ y. cond (p y) 1 0) xs ≡ sum_by (λ y. cond (p y) 1 0) (x ∷ xs) =
+      omega (arith, s, none) in q)
 ]) refl
 
 -- the exchanged parts are one of the exchanged rows under the tuples under which the parts are one of the rows
-pub some-exchanged : (ps : List Part) (rows second : List (List Value)) (t : List Value) → AreExchanged rows second → fits_some (exchanged ps) second t ≡ fits_some ps rows t
+pub some-exchanged : (ps : List Part) (rows second : List (List Value)) (t : List Value) → AreExchanged rows second →
+    fits_some (exchanged ps) second t ≡ fits_some ps rows t
 some-exchanged ps rows second t h =
     any-counted (λ r. fits_all (exchanged ps) r t) second
     ∙ (ap is-some (h (λ r. cond (fits_all (exchanged ps) r t) 1 0) ∙ λ i. sum_by (λ r. cond (sym (fits-exchanged ps r t) i) 1 0) rows)

@@ -1,5 +1,6 @@
 -- When a tuple makes the parts of a pattern a row.
-use Rattle.std.specs.Prelude.{◌≡◌, ◌<◌, ℕ, List, [], ◌∷◌, Bool, true, false, ◌&&◌, ◌||◌, ◌==◌, Option, Some, None, slice_get, slice_index_or, length, take, ◌-◌}
+use Rattle.std.specs.Prelude.{◌≡◌, ◌<◌, ℕ, List, [], ◌∷◌, Bool, true, false, ◌&&◌, ◌||◌, ◌==◌, Option, Some, None, slice_get}
+use Rattle.std.specs.Prelude.{slice_index_or, length, take, ◌-◌}
 use Rattle.tl_syntax.specs.declared.value.Value.{Value}
 use Rattle.tl_syntax.specs.DerivedTests.{value_eq}
 use Rattle.tl_match.specs.declared.pattern.Match.{Match}
@@ -40,7 +41,8 @@ Known ps vs values = (t : List Value) → fits_all ps vs t ≡ true → (n : ℕ
 -- m is the one tuple of k values that makes the parts the row
 abbrev pub IsMatch : List Part → List Value → ℕ → Option Match → Type 0
 IsMatch ps vs k None = (t : List Value) → length t ≡ k → fits_all ps vs t ≡ false
-IsMatch ps vs k (Some m) = (m.len ≡ k) × (length (take k m.values) ≡ k) × (fits_all ps vs (take k m.values) ≡ true) × ((t : List Value) → length t ≡ k → fits_all ps vs t ≡ true → take k m.values ≡ t)
+IsMatch ps vs k (Some m) = (m.len ≡ k) × (length (take k m.values) ≡ k) × (fits_all ps vs (take k m.values) ≡ true) ×
+    ((t : List Value) → length t ≡ k → fits_all ps vs t ≡ true → take k m.values ≡ t)
 
 -- the tuple begins with the first n of the values
 abbrev pub BeginsAs : ℕ → List Value → List Value → Type 0

@@ -1,6 +1,7 @@
 -- The leading values of a row that a pattern asks for, as far as the values of its first variables
 -- are known.
-use Rattle.std.specs.Prelude.{◌≡◌, ◌≤◌, ℕ, ◌+◌, List, [], ◌∷◌, Bool, true, false, ◌&&◌, cond, ◌==◌, nat_le, Option, Some, None, slice_get, length, take, drop}
+use Rattle.std.specs.Prelude.{◌≡◌, ◌≤◌, ℕ, ◌+◌, List, [], ◌∷◌, Bool, true, false, ◌&&◌, cond, ◌==◌, nat_le, Option, Some, None, slice_get}
+use Rattle.std.specs.Prelude.{length, take, drop}
 use Rattle.std.specs.declared.cmp.Ordering.{Ordering}
 use Rattle.std.specs.declared.cmp.Ordering.TheVariants.{Less, Equal, Greater}
 use Rattle.tl_syntax.specs.declared.value.Value.{Value}

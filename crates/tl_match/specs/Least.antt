@@ -25,7 +25,8 @@ lower (Some b) k t = is_lt (row_cmp t (take k b.values))
 -- the least tuple of k values that passes the test
 unfoldable pub IsLeast : ℕ → (List Value → Bool) → Option Match → Type 0
 IsLeast k c None = (t : List Value) → length t ≡ k → c t ≡ false
-IsLeast k c (Some m) = (m.len ≡ k) × (length (take k m.values) ≡ k) × (c (take k m.values) ≡ true) × ((t : List Value) → length t ≡ k → c t ≡ true → is_gt (row_cmp (take k m.values) t) ≡ false)
+IsLeast k c (Some m) = (m.len ≡ k) × (length (take k m.values) ≡ k) × (c (take k m.values) ≡ true) ×
+    ((t : List Value) → length t ≡ k → c t ≡ true → is_gt (row_cmp (take k m.values) t) ≡ false)
 
 -- the match that was found, where it comes after `after` and before the best so far, and else the
 -- best so far
@@ -45,7 +46,8 @@ is_later false a t = true
 
 -- the rows from place i on have the tuples of all rows that come after the one in place
 abbrev pub HasLater : List Part → Bool → List Value → List (List Value) → ℕ → Type 0
-HasLater ps begun a rows i = (t : List Value) → length t ≡ length a → fits_some ps (drop i rows) t ≡ (fits_some ps rows t && is_later begun a t)
+HasLater ps begun a rows i = (t : List Value) → length t ≡ length a → fits_some ps (drop i rows) t ≡
+    (fits_some ps rows t && is_later begun a t)
 
 -- the match, where one is in place
 abbrev pub match_in_place : Bool → Match → Option Match

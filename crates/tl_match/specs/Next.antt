@@ -44,7 +44,8 @@ IsChain k test after (t ∷ ts) = IsNext k test after (Some t) × IsChain k test
 -- the chain of the tuples that make a pattern true has all of them, each once, in lexicographic
 -- value order
 abbrev pub ChainHasAllMatches : Type 0
-ChainHasAllMatches = (w : World) (p : Pattern) (ts : List (List Value)) → IsChain p.free (makes_true w p) None ts → Rises row_cmp ts × ((t : List Value) → Among t ts ↔ ((length t ≡ p.free) × (makes_true w p t ≡ true)))
+ChainHasAllMatches = (w : World) (p : Pattern) (ts : List (List Value)) → IsChain p.free (makes_true w p) None ts → Rises row_cmp ts ×
+    ((t : List Value) → Among t ts ↔ ((length t ≡ p.free) × (makes_true w p t ≡ true)))
 
 -- each pattern has such a chain, so its matches have an end
 abbrev pub MatchesHaveAnEnd : Type 0

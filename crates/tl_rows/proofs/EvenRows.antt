@@ -1,7 +1,9 @@
 -- Rows of one length, cut from one list.
-use Rattle.std.proofs.Common.{◌≡◌, ℕ, zero, suc, ◌+◌, ◌-◌, ◌*◌, ◌<◌, ◌≤◌, List, [], ◌∷◌, ◌++◌, length, length-append, get_or, take, drop, refl, sym, ap, ◌∙◌, subst, arith}
+use Rattle.std.proofs.Common.{◌≡◌, ℕ, zero, suc, ◌+◌, ◌-◌, ◌*◌, ◌<◌, ◌≤◌, List, [], ◌∷◌, ◌++◌, length, length-append, get_or, take, drop}
+use Rattle.std.proofs.Common.{refl, sym, ap, ◌∙◌, subst, arith}
 use Rattle.std.proofs.Math.Nat.{mul-add, mul-suc, mul-sub, mul-le-mul_left, le_of_mul-le-mul_left}
-use Rattle.std.proofs.lemmas.List.{take_all, take-take, take-append-le, take-append-drop, take_at, drop-append-le, drop-drop, drop_at, length-drop, length-take-le, nil_from_length}
+use Rattle.std.proofs.lemmas.List.{take_all, take-take, take-append-le, take-append-drop, take_at, drop-append-le, drop-drop, drop_at}
+use Rattle.std.proofs.lemmas.List.{length-drop, length-take-le, nil_from_length}
 use Rattle.std.specs.List.{insert, remove}
 use Rattle.tl_rows.specs.Cuts.{even_rows, items_with, items_without, HaveWidth}
 use Rattle.tl_rows.specs.Runs.{between}
@@ -38,7 +40,8 @@ module _ {X : Type 0} (w : ℕ) where
       let p : w ≤ w * suc n = omega (arith, s) in
       let q : w * suc n ≡ w + w * n = omega (arith, s) in
       let row : take w xs ≡ take w ys = sym (take-take w (w * suc n) xs p) ∙ (ap (take w) e ∙ take-take w (w * suc n) ys p) in
-      let rest : take (w * n) (drop w xs) ≡ take (w * n) (drop w ys) = sym (drop-taken w (w * suc n) (w * n) xs q) ∙ (ap (drop w) e ∙ drop-taken w (w * suc n) (w * n) ys q) in
+      let rest : take (w * n) (drop w xs) ≡ take (w * n) (drop w ys) = sym (drop-taken w (w * suc n) (w * n) xs q) ∙
+      (ap (drop w) e ∙ drop-taken w (w * suc n) (w * n) ys q) in
       λ i. row i ∷ same-cut n (drop w xs) (drop w ys) rest i
 
   -- the rows of one list and those of another after them
@@ -48,7 +51,8 @@ module _ {X : Type 0} (w : ℕ) where
       λ i. even_rows w ((let k : zero + m ≡ m = omega arith in k) i) (nil_from_length xs (sym e ∙ z) i ++ ys)
   joined (suc n) m xs ys e =
       ap (λ k. even_rows w k (xs ++ ys)) (let k : suc n + m ≡ suc (n + m) = omega arith in k)
-      ∙ λ i. take-append-le w xs ys (wide n xs e) i ∷ (ap (even_rows w (n + m)) (drop-append-le w xs ys (wide n xs e)) ∙ joined n m (drop w xs) ys (left n xs e)) i
+      ∙ λ i. take-append-le w xs ys (wide n xs e) i ∷ (ap (even_rows w (n + m)) (drop-append-le w xs ys (wide n xs e)) ∙
+      joined n m (drop w xs) ys (left n xs e)) i
 
   -- one row and then others
   pub row-first : (m : ℕ) (row ys : List X) → length row ≡ w → even_rows w (suc m) (row ++ ys) ≡ row ∷ even_rows w m ys
@@ -62,10 +66,12 @@ module _ {X : Type 0} (w : ℕ) where
       let s = mul-suc w k in
       let low : w ≤ w * suc k = omega (arith, s) in
       let more : w * suc k ≡ w + w * k = omega (arith, s) in
-      λ i. sym (take-take w (w * suc k) xs low) i ∷ (first-rows k n (drop w xs) (omega (arith, p)) ∙ ap (even_rows w k) (sym (drop-taken w (w * suc k) (w * k) xs more))) i
+      λ i. sym (take-take w (w * suc k) xs low) i ∷ (first-rows k n (drop w xs) (omega (arith, p)) ∙
+      ap (even_rows w k) (sym (drop-taken w (w * suc k) (w * k) xs more))) i
 
   pub last-rows : (k n : ℕ) (xs : List X) → k ≤ n → drop k (even_rows w n xs) ≡ even_rows w (n - k) (drop (w * k) xs)
-  last-rows zero n xs p = λ i. even_rows w ((let e : n ≡ n - zero = omega arith in e) i) (drop ((let e : 0 ≡ w * zero = omega arith in e) i) xs)
+  last-rows zero n xs p = λ i. even_rows w ((let e : n ≡ n - zero = omega arith in e) i)
+      (drop ((let e : 0 ≡ w * zero = omega arith in e) i) xs)
   last-rows (suc k) zero xs p = absurd (omega (arith, p))
   last-rows (suc k) (suc n) xs p =
       let s = mul-suc w k in
@@ -94,12 +100,14 @@ module _ {X : Type 0} (w : ℕ) where
       omega (arith, m, s, e)
 
   -- some of the rows
-  pub part-rows : (n k r : ℕ) (xs : List X) → k + r ≤ n → take r (drop k (even_rows w n xs)) ≡ even_rows w r (take (w * r) (drop (w * k) xs))
+  pub part-rows : (n k r : ℕ) (xs : List X) → k + r ≤ n → take r (drop k (even_rows w n xs)) ≡
+      even_rows w r (take (w * r) (drop (w * k) xs))
   part-rows n k r xs p =
       let low : r ≤ n - k = omega (arith, p) in
       ap (take r) (last-rows k n xs (omega (arith, p))) ∙ first-rows r (n - k) (drop (w * k) xs) low
 
-  pub some-rows : (n from to : ℕ) (xs : List X) → from ≤ to → to ≤ n → even_rows w (to - from) (take (w * (to - from)) (drop (w * from) xs)) ≡ between (even_rows w n xs) from to
+  pub some-rows : (n from to : ℕ) (xs : List X) → from ≤ to → to ≤ n →
+      even_rows w (to - from) (take (w * (to - from)) (drop (w * from) xs)) ≡ between (even_rows w n xs) from to
   some-rows n from to xs p q = sym (part-rows n from (to - from) xs (omega (arith, p, q)))
 
   pub some-size : (n from to : ℕ) (xs : List X) → w * n ≡ length xs → from ≤ to → to ≤ n → w * from + w * (to - from) ≤ length xs
@@ -117,7 +125,8 @@ module _ {X : Type 0} (w : ℕ) where
       le_of_mul-le-mul_left m some
 
   -- one more row at the end
-  pub one-more : (n : ℕ) (xs row : List X) → w * n ≡ length xs → length row ≡ w → even_rows w (n + 1) (xs ++ row) ≡ even_rows w n xs ++ row ∷ []
+  pub one-more : (n : ℕ) (xs row : List X) → w * n ≡ length xs → length row ≡ w → even_rows w (n + 1) (xs ++ row) ≡ even_rows w n xs ++
+      row ∷ []
   one-more n xs row e fits = joined n 1 xs row e ∙ ap (λ r. even_rows w n xs ++ r ∷ []) (take_all w row (omega (arith, fits)))
 
   -- the rows have that length
@@ -139,7 +148,8 @@ module _ {X : Type 0} (w : ℕ) where
   cuts-back n xs ys e f is = sym (values-back n xs e) ∙ (ap flattened is ∙ values-back n ys f)
 
 -- the same rows, cut by another length that differs only where there are none
-pub aligned : {X : Type 0} (w s n : ℕ) (xs : List X) → w * n ≡ length xs → (0 < n → w ≡ s) → (even_rows w n xs ≡ even_rows s n xs) × (s * n ≡ length xs)
+pub aligned : {X : Type 0} (w s n : ℕ) (xs : List X) → w * n ≡ length xs → (0 < n → w ≡ s) → (even_rows w n xs ≡ even_rows s n xs) ×
+    (s * n ≡ length xs)
 aligned w s zero xs e same = (refl, (let z : s * zero ≡ w * zero = omega arith in z) ∙ e)
 aligned w s (suc n) xs e same =
     let is : w ≡ s = same (omega arith) in
@@ -219,7 +229,8 @@ module _ {X : Type 0} (w n : ℕ) (xs : List X) (v : List (List X)) (size : w * 
         (sym r.0 ∙ view, r.1)
 
 -- rows from the places of the same items on
-pub same-part : {X : Type 0} (w n u m : ℕ) (xs ys : List X) (v z : List (List X)) → w * n ≡ length xs → even_rows w n xs ≡ v → u * m ≡ length ys → even_rows u m ys ≡ z → w ≡ u → (k l r : ℕ)
+pub same-part : {X : Type 0} (w n u m : ℕ) (xs ys : List X) (v z : List (List X)) → w * n ≡ length xs → even_rows w n xs ≡ v → u * m ≡
+    length ys → even_rows u m ys ≡ z → w ≡ u → (k l r : ℕ)
     → k + r ≤ n → l + r ≤ m → take (w * r) (drop (w * k) xs) ≡ take (w * r) (drop (w * l) ys) → take r (drop k v) ≡ take r (drop l z)
 same-part w n u m xs ys v z e view f shown is k l r p q same =
     ap (λ rs. take r (drop k rs)) (sym view)

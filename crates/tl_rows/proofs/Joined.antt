@@ -1,5 +1,6 @@
 -- Rows in runs that follow one another.
-use Rattle.std.proofs.Common.{◌≡◌, ℕ, zero, suc, ◌+◌, ◌-◌, ◌<◌, ◌≤◌, ◌^◌, List, [], ◌∷◌, ◌++◌, length, length-append, get_or, take, drop, append_assoc, refl, sym, ap, ◌∙◌, subst, arith}
+use Rattle.std.proofs.Common.{◌≡◌, ℕ, zero, suc, ◌+◌, ◌-◌, ◌<◌, ◌≤◌, ◌^◌, List, [], ◌∷◌, ◌++◌, length, length-append, get_or, take, drop}
+use Rattle.std.proofs.Common.{append_assoc, refl, sym, ap, ◌∙◌, subst, arith}
 use Rattle.std.proofs.lemmas.List.{take_all, get_or-append-add}
 use Rattle.std.proofs.Math.Seq.{take-append_seam, drop-append_seam}
 use Rattle.tl_syntax.specs.declared.value.Value.{Value}
@@ -33,7 +34,8 @@ counted-at n (r ∷ rs) zero d h p =
 counted-at n (r ∷ rs) (suc i) d h p =
     let c = counted-at r.end rs i d h.1 (omega arith) in
     let e0 : run_place (r ∷ rs) (suc i) ≡ length r.rows.value + run_place rs i = length-append r.rows.value (rows_in (take i rs)) in
-    let e1 : run_place (r ∷ rs) (suc (suc i)) ≡ length r.rows.value + run_place rs (suc i) = length-append r.rows.value (rows_in (take (suc i) rs)) in
+    let e1 : run_place (r ∷ rs) (suc (suc i)) ≡ length r.rows.value + run_place rs (suc i) =
+    length-append r.rows.value (rows_in (take (suc i) rs)) in
     record {
       end = let f = h.0.2 in let g = c.end in omega (arith, e1, f, g);
       place = let g = c.place in omega (arith, e0, e1, g);
@@ -42,17 +44,20 @@ counted-at n (r ∷ rs) (suc i) d h p =
     }
 
 -- the rows before a run, its own, and those after it
-pub rows_in-at : (rs : List Run) (i : ℕ) (d : Run) → i < length rs → rows_in rs ≡ rows_in (take i rs) ++ ((get_or rs i d).rows.value ++ rows_in (drop (suc i) rs))
+pub rows_in-at : (rs : List Run) (i : ℕ) (d : Run) → i < length rs → rows_in rs ≡ rows_in (take i rs) ++
+    ((get_or rs i d).rows.value ++ rows_in (drop (suc i) rs))
 rows_in-at [] i d p = absurd (omega arith)
 rows_in-at (r ∷ rs) zero d p = refl
-rows_in-at (r ∷ rs) (suc i) d p = ap (λ ys. r.rows.value ++ ys) (rows_in-at rs i d (omega arith)) ∙ sym (append_assoc r.rows.value (rows_in (take i rs)) ((get_or rs i d).rows.value ++ rows_in (drop (suc i) rs)))
+rows_in-at (r ∷ rs) (suc i) d p = ap (λ ys. r.rows.value ++ ys) (rows_in-at rs i d (omega arith)) ∙
+    sym (append_assoc r.rows.value (rows_in (take i rs)) ((get_or rs i d).rows.value ++ rows_in (drop (suc i) rs)))
 
 -- all runs
 pub place-of-end : (rs : List Run) (n : ℕ) → length rs ≤ n → run_place rs n ≡ length (rows_in rs)
 place-of-end rs n p = ap (λ ys. length (rows_in ys)) (take_all n rs p)
 
 -- where the last of some runs ends
-pub place-before : (rs : List Run) (i : ℕ) (d : Run) → AreCounted 0 rs → 0 < i → i ≤ length rs → ((get_or rs (i - 1) d).end ≡ run_place rs i) × ((get_or rs (i - 1) d).end < 2 ^ 63)
+pub place-before : (rs : List Run) (i : ℕ) (d : Run) → AreCounted 0 rs → 0 < i → i ≤ length rs →
+    ((get_or rs (i - 1) d).end ≡ run_place rs i) × ((get_or rs (i - 1) d).end < 2 ^ 63)
 place-before rs i d h p q =
     let c = counted-at 0 rs (i - 1) d h (omega (arith, p, q)) in
     let s : suc (i - 1) ≡ i = omega (arith, p) in
@@ -73,14 +78,17 @@ run-part rs i d p =
     let rest = rows_in (drop (suc i) rs) in
     let is = rows_in-at rs i d p in
     record {
-      within = let l1 : length (rows_in rs) ≡ length front + length (run ++ rest) = ap length is ∙ length-append front (run ++ rest) in let l2 = length-append run rest in omega (arith, l1, l2);
+      within = let l1 : length (rows_in rs) ≡ length front + length (run ++ rest) = ap length is ∙ length-append front (run ++ rest) in
+          let l2 = length-append run rest in omega (arith, l1, l2);
       are = sym (ap (λ ys. between ys (length front) (length front + length run)) is
           ∙ (ap (take (length front + length run - length front)) (drop-append_seam front (run ++ rest))
-          ∙ (ap (λ n. take n (run ++ rest)) (let m : length front + length run - length front ≡ length run = omega arith in m) ∙ take-append_seam run rest)));
+          ∙ (ap (λ n. take n (run ++ rest)) (let m : length front + length run - length front ≡ length run = omega arith in m) ∙
+          take-append_seam run rest)));
     }
 
 -- the first row of a run
-pub first-of-run : (rs : List Run) (i : ℕ) (d : Run) (e : List Value) → i < length rs → 0 < length (get_or rs i d).rows.value → get_or (rows_in rs) (run_place rs i) e ≡ get_or (get_or rs i d).rows.value 0 e
+pub first-of-run : (rs : List Run) (i : ℕ) (d : Run) (e : List Value) → i < length rs → 0 < length (get_or rs i d).rows.value →
+    get_or (rows_in rs) (run_place rs i) e ≡ get_or (get_or rs i d).rows.value 0 e
 first-of-run rs i d e p q =
     let front = rows_in (take i rs) in
     let run = (get_or rs i d).rows.value in
@@ -98,10 +106,14 @@ pub rows_in-pushed : (rs : List Run) (r : Run) → rows_in (rs ++ r ∷ []) ≡ 
 rows_in-pushed [] r = append-none r.rows.value
 rows_in-pushed (s ∷ rs) r = ap (λ ys. s.rows.value ++ ys) (rows_in-pushed rs r) ∙ sym (append_assoc s.rows.value (rows_in rs) r.rows.value)
 
-pub counted-pushed : (n : ℕ) (rs : List Run) (r : Run) → AreCounted n rs → 0 < length r.rows.value → r.end < 2 ^ 63 → r.end ≡ n + (length (rows_in rs) + length r.rows.value) → AreCounted n (rs ++ r ∷ [])
+pub counted-pushed : (n : ℕ) (rs : List Run) (r : Run) → AreCounted n rs → 0 < length r.rows.value → r.end < 2 ^ 63 → r.end ≡
+    n + (length (rows_in rs) + length r.rows.value) → AreCounted n (rs ++ r ∷ [])
 counted-pushed n [] r h p q e = ((omega (arith, p, e), q, (let m : r.end ≡ n + length r.rows.value = omega (arith, e) in m)), tt)
-counted-pushed n (s ∷ rs) r h p q e =
-    (h.0, counted-pushed s.end rs r h.1 p q (let l : length (s.rows.value ++ rows_in rs) ≡ length s.rows.value + length (rows_in rs) = length-append s.rows.value (rows_in rs) in let f = h.0.2 in omega (arith, l, f, e)))
+counted-pushed n (s ∷ rs) r h p q e = (
+  h.0,
+  counted-pushed s.end rs r h.1 p q (let l : length (s.rows.value ++ rows_in rs) ≡ length s.rows.value + length (rows_in rs) =
+      length-append s.rows.value (rows_in rs) in let f = h.0.2 in omega (arith, l, f, e)),
+)
 
 -- without rows there are no runs
 pub no-runs : (n : ℕ) (rs : List Run) → AreCounted n rs → length rs ≡ 0 → length (rows_in rs) ≡ 0
@@ -113,13 +125,15 @@ some-runs [] p = absurd (omega arith)
 some-runs (r ∷ rs) p = omega arith
 
 -- a run that was found
-pub found-run : (rs s : List Run) (w : List (List Value)) (i b : ℕ) (r : Run) → s ≡ rs → rows_in rs ≡ w → i < length s → b ≡ run_place s i → IsPart w b (get_or s i r).rows.value
+pub found-run : (rs s : List Run) (w : List (List Value)) (i b : ℕ) (r : Run) → s ≡ rs → rows_in rs ≡ w → i < length s → b ≡ run_place s i →
+    IsPart w b (get_or s i r).rows.value
 found-run rs s w i b r e v p q =
     subst (λ z. IsPart z b (get_or s i r).rows.value) (ap rows_in e ∙ v)
     (subst (λ n. IsPart (rows_in s) n (get_or s i r).rows.value) (sym q) (run-part s i r p))
 
 -- how far it goes
-pub found-end : (rs s : List Run) (i b : ℕ) (r : Run) → s ≡ rs → AreCounted 0 rs → i < length s → b ≡ run_place s i → run_place s (i + 1) ≡ b + length (get_or s i r).rows.value
+pub found-end : (rs s : List Run) (i b : ℕ) (r : Run) → s ≡ rs → AreCounted 0 rs → i < length s → b ≡ run_place s i → run_place s (i + 1) ≡
+    b + length (get_or s i r).rows.value
 found-end rs s i b r e h p q =
     let c = counted-at 0 s i r (subst (AreCounted 0) (sym e) h) p in
     let f = c.place in
@@ -130,8 +144,10 @@ pub found-some : (rs s : List Run) (i : ℕ) (r : Run) → s ≡ rs → AreCount
 found-some rs s i r e h p = let c = counted-at 0 s i r (subst (AreCounted 0) (sym e) h) p in c.some
 
 -- the run for some arguments
-pub found-for : (args : List Value) (rs s : List Run) (w rows : List (List Value)) (i b : ℕ) (r : Run) → s ≡ rs → rows_in rs ≡ w → AreCounted 0 rs → i < length s → b ≡ run_place s i → rows ≡ (get_or s i r).rows.value
-    → (0 < i → row_cmp (get_or (rows_in s) (run_place s i) []) args ≢ Greater) → (i + 1 < length s → row_cmp (get_or (rows_in s) (run_place s (i + 1)) []) args ≡ Greater) → IsPartFor args w b rows
+pub found-for : (args : List Value) (rs s : List Run) (w rows : List (List Value)) (i b : ℕ) (r : Run) → s ≡ rs → rows_in rs ≡ w →
+    AreCounted 0 rs → i < length s → b ≡ run_place s i → rows ≡ (get_or s i r).rows.value
+    → (0 < i → row_cmp (get_or (rows_in s) (run_place s i) []) args ≢ Greater) →
+    (i + 1 < length s → row_cmp (get_or (rows_in s) (run_place s (i + 1)) []) args ≡ Greater) → IsPartFor args w b rows
 found-for args rs s w rows i b r e v h p q is before after =
     let whole : rows_in s ≡ w = ap rows_in e ∙ v in
     let size : length rows ≡ length (get_or s i r).rows.value = ap length is in
@@ -141,10 +157,12 @@ found-for args rs s w rows i b r e v h p q is before after =
       filled = λ _. (let f = found-some rs s i r e h p in omega (arith, f, size));
       before = λ some g. elim (cases_lt 0 i) [
         | inl up ↦ before up (subst (λ x. row_cmp x args ≡ Greater) ((λ j. get_or (sym whole j) (q j) [])) g)
-        | inr low ↦ let z : i ≡ 0 = omega (arith, low) in let n : run_place s i ≡ 0 = ap (run_place s) z in absurd (omega (arith, some, q, n))
+        | inr low ↦ let z : i ≡ 0 = omega (arith, low) in let n : run_place s i ≡ 0 = ap (run_place s) z in
+            absurd (omega (arith, some, q, n))
       ];
       after = λ more. elim (cases_lt (i + 1) (length s)) [
         | inl up ↦ subst (λ x. row_cmp x args ≡ Greater) (λ j. get_or (whole j) (far j) []) (after up)
-        | inr end ↦ let n : run_place s (i + 1) ≡ length (rows_in s) = place-of-end s (i + 1) end in let l : length (rows_in s) ≡ length w = ap length whole in absurd (omega (arith, more, far, n, l))
+        | inr end ↦ let n : run_place s (i + 1) ≡ length (rows_in s) = place-of-end s (i + 1) end in let l : length (rows_in s) ≡ length w =
+            ap length whole in absurd (omega (arith, more, far, n, l))
       ];
     }

@@ -1,5 +1,6 @@
 -- What is among the rows of a table.
-use Rattle.std.proofs.Common.{◌≡◌, ◌↔◌, ◌⊎◌, ◌<◌, List, [], ◌∷◌, map, length, true, false, cond, true≢false, Some, Less, Equal, Ordering, refl, sym, ap, ◌∙◌, inl, inr, arith}
+use Rattle.std.proofs.Common.{◌≡◌, ◌↔◌, ◌⊎◌, ◌<◌, List, [], ◌∷◌, map, length, true, false, cond, true≢false, Some, Less, Equal, Ordering}
+use Rattle.std.proofs.Common.{refl, sym, ap, ◌∙◌, inl, inr, arith}
 use Rattle.std.specs.List.{list_any}
 use Rattle.std.specs.FinSet as set
 use Rattle.std.specs.FinMap as dict
@@ -30,10 +31,11 @@ module _ {K : Type 0} {R : K → K → Ordering} (o : IsTotalOrder R) (same : se
   module _ {X : Type 0} where
     found-among : (es : List (K × X)) (k : K) (u : X) → dict.find R k es ≡ Some u → Among (k, u) es
     found-among [] k u h = cc
-    found-among (x ∷ es) k u h = (elim (eq_by_cmp R k x.0) as (λ b. eq_by_cmp R k x.0 ≡ b → cond b (Some x.1) (dict.find R k es) ≡ Some u → x ≡ (k, u) ⊎ Among (k, u) es) [
-      | true ↦ λ q m. let a : x.0 ≡ k = key-is k x.0 q in let b : x.1 ≡ u = cc in inl (λ i. (a i, b i))
-      | false ↦ λ q m. inr (found-among es k u m)
-    ]) refl h
+    found-among (x ∷ es) k u h = (elim (eq_by_cmp R k x.0) as (λ b. eq_by_cmp R k x.0 ≡ b → cond b (Some x.1) (dict.find R k es) ≡ Some u →
+        x ≡ (k, u) ⊎ Among (k, u) es) [
+          | true ↦ λ q m. let a : x.0 ≡ k = key-is k x.0 q in let b : x.1 ≡ u = cc in inl (λ i. (a i, b i))
+          | false ↦ λ q m. inr (found-among es k u m)
+        ]) refl h
 
     key-among : (es : List (K × X)) (k : K) (u : X) → Among (k, u) es → Among k (map (λ e. e.0) es)
     key-among [] k u m = m
@@ -42,7 +44,8 @@ module _ {K : Type 0} {R : K → K → Ordering} (o : IsTotalOrder R) (same : se
     among-found : (es : List (K × X)) → Rises R (map (λ e. e.0) es) → (k : K) (u : X) → Among (k, u) es → dict.find R k es ≡ Some u
     among-found [] r k u m = absurd m
     among-found (x ∷ es) r k u m = elim m [
-      | inl e ↦ ap (λ b. cond b (Some x.1) (dict.find R k es)) (key-itself k x.0 (ap (λ (y : K × X). y.0) e)) ∙ ap (λ (y : K × X). Some y.1) e
+      | inl e ↦ ap (λ b. cond b (Some x.1) (dict.find R k es)) (key-itself k x.0 (ap (λ (y : K × X). y.0) e)) ∙
+          ap (λ (y : K × X). Some y.1) e
       | inr n ↦ ap (λ b. cond b (Some x.1) (dict.find R k es)) (later n) ∙ among-found es r.1 k u n
     ]
       where

@@ -19,7 +19,8 @@ module _ {X : Type 0} (ord : X → Ordering) (xs : List X) (m : ℕ) (x : X) (lo
   at : (o : Ordering) → ord x ≡ o → (d : X) → ord (get_or xs m d) ≡ o
   at o e d = ap ord (get_or_default xs m d x low ∙ sym is) ∙ e
 
-  pub all-less : (j : ℕ) → j ≡ m + 1 → ord x ≡ Less → IsNonDecreasingBy (λ y. ordering_index (ord y)) xs → AllWithin (λ y. ord y ≡ Less) xs 0 j
+  pub all-less : (j : ℕ) → j ≡ m + 1 → ord x ≡ Less → IsNonDecreasingBy (λ y. ordering_index (ord y)) xs →
+      AllWithin (λ y. ord y ≡ Less) xs 0 j
   all-less j n e rise k d _ q =
       let p : ordering_index (ord (get_or xs k d)) ≤ ordering_index (ord (get_or xs m d)) = rise k m d (omega (arith, n, q)) low in
       least-index _ (subst (λ o. ordering_index (ord (get_or xs k d)) ≤ ordering_index o) (at Less e d) p)

@@ -7,15 +7,19 @@ use Rattle.tl_syntax.specs.declared.value.Value.{Value}
 use Rattle.tl_rows.specs.Codes.{row_code, rows_code}
 
 -- the code of rows with one more
-pub code-added : (code a at : ℕ) (rows after : List (List Value)) (row : List Value) → code ≡ rows_code rows → a ≡ row_code row → after ≡ insert rows at row → (code + a) % 2 ^ 64 ≡ rows_code after
+pub code-added : (code a at : ℕ) (rows after : List (List Value)) (row : List Value) → code ≡ rows_code rows → a ≡ row_code row → after ≡
+    insert rows at row → (code + a) % 2 ^ 64 ≡ rows_code after
 code-added code a at rows after row e is_a made =
     let more = sum_by-insert row_code rows at row in
     ap (λ c. (c + a) % 2 ^ 64) e
     ∙ (mod-add-mod (sum_by row_code rows) (2 ^ 64) a
-    ∙ (ap (λ u. u % 2 ^ 64) (let q : sum_by row_code rows + a ≡ sum_by row_code (insert rows at row) = omega (arith, more, is_a) in q) ∙ ap rows_code (sym made)))
+    ∙ (ap (λ u. u % 2 ^ 64) (let q : sum_by row_code rows + a ≡ sum_by row_code (insert rows at row) = omega (arith, more, is_a) in q) ∙
+    ap rows_code (sym made)))
 
 -- the code of rows without one
-pub code-removed : (code b cut : ℕ) (rows after : List (List Value)) (gone : List Value) → code ≡ rows_code rows → b ≡ row_code gone → b ≤ 2 ^ 64 → gone ≡ get_or rows cut gone → cut < length rows → after ≡ remove rows cut → (code + (2 ^ 64 - b)) % 2 ^ 64 ≡ rows_code after
+pub code-removed : (code b cut : ℕ) (rows after : List (List Value)) (gone : List Value) → code ≡ rows_code rows → b ≡ row_code gone →
+    b ≤ 2 ^ 64 → gone ≡ get_or rows cut gone → cut < length rows → after ≡ remove rows cut → (code + (2 ^ 64 - b)) % 2 ^ 64 ≡
+    rows_code after
 code-removed code b cut rows after gone e is_b fits is_gone p made =
     let s = sum_by row_code rows in
     let t = sum_by row_code (remove rows cut) in

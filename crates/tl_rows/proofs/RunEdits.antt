@@ -1,5 +1,6 @@
 -- Runs of which one is edited, and the ends after it.
-use Rattle.std.proofs.Common.{◌≡◌, ℕ, zero, suc, ◌+◌, ◌-◌, ◌<◌, ◌≤◌, ◌^◌, List, [], ◌∷◌, ◌++◌, map, length, length-append, get_or, take, drop, refl, sym, ap, ◌∙◌, subst, arith}
+use Rattle.std.proofs.Common.{◌≡◌, ℕ, zero, suc, ◌+◌, ◌-◌, ◌<◌, ◌≤◌, ◌^◌, List, [], ◌∷◌, ◌++◌, map, length, length-append, get_or, take}
+use Rattle.std.proofs.Common.{drop, refl, sym, ap, ◌∙◌, subst, arith}
 use Rattle.std.proofs.Math.ListN.{set}
 use Rattle.std.proofs.lemmas.List.Edits.{length-insert, length-remove}
 use Rattle.std.specs.List.{insert, remove}
@@ -29,7 +30,8 @@ pub record IsRunOf (rs : List Run) (i b k : ℕ) (d : Run) : Type 0 where
   pub to : k < b + length (get_or rs i d).rows.value
   pub end : (get_or rs i d).end ≡ b + length (get_or rs i d).rows.value
 
-pub run-found : (rs s t : List Run) (i b k : ℕ) (d : Run) → s ≡ rs → t ≡ rs → AreCounted 0 rs → i < length s → run_place s i ≤ k → k < run_place s (i + 1) → b ≡ run_place t i → IsRunOf rs i b k d
+pub run-found : (rs s t : List Run) (i b k : ℕ) (d : Run) → s ≡ rs → t ≡ rs → AreCounted 0 rs → i < length s → run_place s i ≤ k →
+    k < run_place s (i + 1) → b ≡ run_place t i → IsRunOf rs i b k d
 run-found rs s t i b k d e f h p low high is =
     let below : i < length rs = subst (λ xs. i < length xs) e p in
     let start : run_place s i ≡ run_place rs i = ap (λ xs. run_place xs i) e in
@@ -46,7 +48,8 @@ run-found rs s t i b k d e f h p low high is =
 
 -- one more item of those from a place on
 module _ {X : Type 0} (f : X → X) where
-  pub one-more : (xs : List X) (j : ℕ) (d : X) → j < length xs → set (take (suc j) xs ++ map f (drop (suc j) xs)) j (f (get_or xs j d)) ≡ take j xs ++ map f (drop j xs)
+  pub one-more : (xs : List X) (j : ℕ) (d : X) → j < length xs → set (take (suc j) xs ++ map f (drop (suc j) xs)) j (f (get_or xs j d)) ≡
+      take j xs ++ map f (drop j xs)
   one-more [] j d p = absurd (omega (arith, p))
   one-more (x ∷ xs) zero d p = refl
   one-more (x ∷ xs) (suc j) d p = ap (λ ys. x ∷ ys) (one-more xs j d (omega (arith, p)))
@@ -72,7 +75,8 @@ lowered-counted m e (r ∷ rs) h is =
       lowered-counted (r.end - 1) r.end rs h.1 (omega (arith, a)),
     )
 
-raised-counted : (m e : ℕ) (rs : List Run) → AreCounted e rs → m ≡ suc e → e + length (rows_in rs) + 1 < 2 ^ 63 → AreCounted m (map raised rs)
+raised-counted : (m e : ℕ) (rs : List Run) → AreCounted e rs → m ≡ suc e → e + length (rows_in rs) + 1 < 2 ^ 63 →
+    AreCounted m (map raised rs)
 raised-counted m e [] h is p = tt
 raised-counted m e (r ∷ rs) h is p =
     let a = h.0.0 in
@@ -85,7 +89,8 @@ raised-counted m e (r ∷ rs) h is p =
 
 module _ (r d : Run) where
   -- the run i was edited, and each end from it on is one less
-  pub cut-counted : (n : ℕ) (rs : List Run) (i k : ℕ) → AreCounted n rs → i < length rs → r.end ≡ (get_or rs i d).end → r.rows.value ≡ remove (get_or rs i d).rows.value k → k < length (get_or rs i d).rows.value → 1 < length (get_or rs i d).rows.value
+  pub cut-counted : (n : ℕ) (rs : List Run) (i k : ℕ) → AreCounted n rs → i < length rs → r.end ≡ (get_or rs i d).end → r.rows.value ≡
+      remove (get_or rs i d).rows.value k → k < length (get_or rs i d).rows.value → 1 < length (get_or rs i d).rows.value
       → AreCounted n (take i (set rs i r) ++ map lowered (drop i (set rs i r)))
   cut-counted n [] i k h p e is q two = absurd (omega (arith, p))
   cut-counted n (x ∷ rs) zero k h p e is q two =
@@ -99,7 +104,8 @@ module _ (r d : Run) where
   cut-counted n (x ∷ rs) (suc i) k h p e is q two = (h.0, cut-counted x.end rs i k h.1 (omega (arith, p)) e is q two)
 
   -- and each is one more
-  pub put-counted : (n : ℕ) (rs : List Run) (i k : ℕ) (row : List Value) → AreCounted n rs → i < length rs → r.end ≡ (get_or rs i d).end → r.rows.value ≡ insert (get_or rs i d).rows.value k row → k ≤ length (get_or rs i d).rows.value → n + length (rows_in rs) + 1 < 2 ^ 63
+  pub put-counted : (n : ℕ) (rs : List Run) (i k : ℕ) (row : List Value) → AreCounted n rs → i < length rs → r.end ≡ (get_or rs i d).end →
+      r.rows.value ≡ insert (get_or rs i d).rows.value k row → k ≤ length (get_or rs i d).rows.value → n + length (rows_in rs) + 1 < 2 ^ 63
       → AreCounted n (take i (set rs i r) ++ map raised (drop i (set rs i r)))
   put-counted n [] i k row h p e is q small = absurd (omega (arith, p))
   put-counted n (x ∷ rs) zero k row h p e is q small =
@@ -117,7 +123,8 @@ module _ (r d : Run) where
       (h.0, put-counted x.end rs i k row h.1 (omega (arith, p)) e is q (omega (arith, c, t, small)))
 
   -- it has as many rows as before
-  pub same-counted : (n : ℕ) (rs : List Run) (i : ℕ) → AreCounted n rs → i < length rs → r.end ≡ (get_or rs i d).end → length r.rows.value ≡ length (get_or rs i d).rows.value → AreCounted n (set rs i r)
+  pub same-counted : (n : ℕ) (rs : List Run) (i : ℕ) → AreCounted n rs → i < length rs → r.end ≡ (get_or rs i d).end → length r.rows.value ≡
+      length (get_or rs i d).rows.value → AreCounted n (set rs i r)
   same-counted n [] i h p e s = absurd (omega (arith, p))
   same-counted n (x ∷ rs) zero h p e s =
       let a = h.0.0 in
@@ -129,17 +136,22 @@ module _ (r d : Run) where
   same-counted n (x ∷ rs) (suc i) h p e s = (h.0, same-counted x.end rs i h.1 (omega (arith, p)) e s)
 
   -- the rows of all runs
-  pub cut-rows : (rs : List Run) (i k j : ℕ) → i < length rs → r.rows.value ≡ remove (get_or rs i d).rows.value k → k < length (get_or rs i d).rows.value → j ≡ run_place rs i + k → rows_in (set rs i r) ≡ remove (rows_in rs) j
+  pub cut-rows : (rs : List Run) (i k j : ℕ) → i < length rs → r.rows.value ≡ remove (get_or rs i d).rows.value k →
+      k < length (get_or rs i d).rows.value → j ≡ run_place rs i + k → rows_in (set rs i r) ≡ remove (rows_in rs) j
   cut-rows [] i k j p is q e = absurd (omega (arith, p))
-  cut-rows (x ∷ rs) zero k j p is q e = ap (λ ys. ys ++ rows_in rs) is ∙ (remove-front x.rows.value (rows_in rs) k q ∙ ap (remove (x.rows.value ++ rows_in rs)) (let m : k ≡ j = omega (arith, e) in m))
+  cut-rows (x ∷ rs) zero k j p is q e = ap (λ ys. ys ++ rows_in rs) is ∙
+      (remove-front x.rows.value (rows_in rs) k q ∙ ap (remove (x.rows.value ++ rows_in rs)) (let m : k ≡ j = omega (arith, e) in m))
   cut-rows (x ∷ rs) (suc i) k j p is q e =
       let l = length-append x.rows.value (rows_in (take i rs)) in
       ap (λ ys. x.rows.value ++ ys) (cut-rows rs i k (run_place rs i + k) (omega (arith, p)) is q refl)
       ∙ remove-back x.rows.value (rows_in rs) (run_place rs i + k) j (omega (arith, l, e))
 
-  pub put-rows : (rs : List Run) (i k j : ℕ) (row : List Value) → i < length rs → r.rows.value ≡ insert (get_or rs i d).rows.value k row → k ≤ length (get_or rs i d).rows.value → j ≡ run_place rs i + k → rows_in (set rs i r) ≡ insert (rows_in rs) j row
+  pub put-rows : (rs : List Run) (i k j : ℕ) (row : List Value) → i < length rs → r.rows.value ≡ insert (get_or rs i d).rows.value k row →
+      k ≤ length (get_or rs i d).rows.value → j ≡ run_place rs i + k → rows_in (set rs i r) ≡ insert (rows_in rs) j row
   put-rows [] i k j row p is q e = absurd (omega (arith, p))
-  put-rows (x ∷ rs) zero k j row p is q e = ap (λ ys. ys ++ rows_in rs) is ∙ (insert-front x.rows.value (rows_in rs) k row q ∙ ap (λ m. insert (x.rows.value ++ rows_in rs) m row) (let m : k ≡ j = omega (arith, e) in m))
+  put-rows (x ∷ rs) zero k j row p is q e = ap (λ ys. ys ++ rows_in rs) is ∙
+      (insert-front x.rows.value (rows_in rs) k row q ∙ ap (λ m. insert (x.rows.value ++ rows_in rs) m row)
+      (let m : k ≡ j = omega (arith, e) in m))
   put-rows (x ∷ rs) (suc i) k j row p is q e =
       let l = length-append x.rows.value (rows_in (take i rs)) in
       ap (λ ys. x.rows.value ++ ys) (put-rows rs i k (run_place rs i + k) row (omega (arith, p)) is q refl)

@@ -27,8 +27,10 @@ place_rows_eq = pointwise place_row_eq
 pub place_row-tells : Tells place_row_eq
 place_row-tells x y = (
   λ h. let k = both (values_eq x.args y.args) (value_eq x.value y.value) h in
-      let p = (list-tells value_eq value-tells x.args y.args).0 k.0 in let q = (value-tells x.value y.value).0 k.1 in λ i. record { args = p i; value = q i },
-  λ e. with_both ((list-tells value_eq value-tells x.args y.args).1 (ap (λ (r : PlaceRow). r.args) e)) ((value-tells x.value y.value).1 (ap (λ (r : PlaceRow). r.value) e)),
+      let p = (list-tells value_eq value-tells x.args y.args).0 k.0 in let q = (value-tells x.value y.value).0 k.1 in λ i.
+      record { args = p i; value = q i },
+  λ e. with_both ((list-tells value_eq value-tells x.args y.args).1 (ap (λ (r : PlaceRow). r.args) e))
+      ((value-tells x.value y.value).1 (ap (λ (r : PlaceRow). r.value) e)),
 )
 
 -- the test holds exactly where they are the same

@@ -1,5 +1,6 @@
 -- The tables of a world can be got back from its facts and places.
-use Rattle.std.proofs.Common.{◌≡◌, ℕ, true, false, cond, T, List, [], ◌∷◌, ◌++◌, map, Option, Some, None, refl, sym, ap, ◌∙◌, Less, is_some, eq-eqb}
+use Rattle.std.proofs.Common.{◌≡◌, ℕ, true, false, cond, T, List, [], ◌∷◌, ◌++◌, map, Option, Some, None, refl, sym, ap, ◌∙◌, Less, is_some}
+use Rattle.std.proofs.Common.{eq-eqb}
 use Rattle.std.specs.Prelude.{nat_eq}
 use Rattle.std.specs.Ordering.{is_eq, nat_cmp, eq_by_cmp}
 use Rattle.std.specs.Cmp.{unsigned_tied}
@@ -23,21 +24,27 @@ other_number : (n m : ℕ) → nat_cmp n m ≡ Less → nat_eq n m ≡ false
 other_number n m e = sym (unsigned_tied n m) ∙ ap is_eq e
 
 module _ {X : Type 0} where
-  push-apart : (n : ℕ) (r : List Value × X) (ts : PlainTables X) → T (below_all nat_cmp n ts) → push_row ((n, r.0), r.1) ts ≡ (n, r ∷ []) ∷ ts
+  push-apart : (n : ℕ) (r : List Value × X) (ts : PlainTables X) → T (below_all nat_cmp n ts) → push_row ((n, r.0), r.1) ts ≡ (n, r ∷ []) ∷
+      ts
   push-apart n r [] h = refl
-  push-apart n r (t ∷ ts) h = ap (λ b. cond b ((t.0, r ∷ t.1) ∷ ts) ((n, r ∷ []) ∷ t ∷ ts)) (other_number n t.0 (is_less _ (first_true _ _ h)))
+  push-apart n r (t ∷ ts) h = ap (λ b. cond b ((t.0, r ∷ t.1) ∷ ts) ((n, r ∷ []) ∷ t ∷ ts))
+      (other_number n t.0 (is_less _ (first_true _ _ h)))
 
-  push-same : (n : ℕ) (r : List Value × X) (rs : PlainRows X) (ts : PlainTables X) → push_row ((n, r.0), r.1) ((n, rs) ∷ ts) ≡ (n, r ∷ rs) ∷ ts
+  push-same : (n : ℕ) (r : List Value × X) (rs : PlainRows X) (ts : PlainTables X) → push_row ((n, r.0), r.1) ((n, rs) ∷ ts) ≡ (n, r ∷ rs) ∷
+      ts
   push-same n r rs ts = ap (λ b. cond b ((n, r ∷ rs) ∷ ts) ((n, r ∷ []) ∷ (n, rs) ∷ ts)) (same_number n)
 
-  group-keyed : (n : ℕ) (rs : PlainRows X) (fs : List (Key × X)) (ts : PlainTables X) → HasItem rs → group fs ≡ ts → T (below_all nat_cmp n ts) → group (keyed n rs ++ fs) ≡ (n, rs) ∷ ts
+  group-keyed : (n : ℕ) (rs : PlainRows X) (fs : List (Key × X)) (ts : PlainTables X) → HasItem rs → group fs ≡ ts →
+      T (below_all nat_cmp n ts) → group (keyed n rs ++ fs) ≡ (n, rs) ∷ ts
   group-keyed n [] fs ts filled e h = absurd filled
   group-keyed n (r ∷ []) fs ts filled e h = ap (push_row ((n, r.0), r.1)) e ∙ push-apart n r ts h
-  group-keyed n (r ∷ s ∷ rs) fs ts filled e h = ap (push_row ((n, r.0), r.1)) (group-keyed n (s ∷ rs) fs ts tt e h) ∙ push-same n r (s ∷ rs) ts
+  group-keyed n (r ∷ s ∷ rs) fs ts filled e h = ap (push_row ((n, r.0), r.1)) (group-keyed n (s ∷ rs) fs ts tt e h) ∙
+      push-same n r (s ∷ rs) ts
 
   pub group-entries : (ts : PlainTables X) → InOrder ts → group (entries_of ts) ≡ ts
   group-entries [] h = refl
-  group-entries (t ∷ ts) h = group-keyed t.0 t.1 (entries_of ts) ts h.1.0.0 (group-entries ts (second_true _ _ h.0, h.1.1)) (first_true _ _ h.0)
+  group-entries (t ∷ ts) h = group-keyed t.0 t.1 (entries_of ts) ts h.1.0.0 (group-entries ts (second_true _ _ h.0, h.1.1))
+      (first_true _ _ h.0)
 
 unit_told : (x y : Option (Unit {0})) → is_some x ≡ is_some y → x ≡ y
 unit_told None None e = refl
@@ -58,7 +65,8 @@ ordered-get ts q h = dict.get-from_entries key_total (marked (set.items (set_of 
 
 pub facts-entries : (ts : PlainTables (Unit {0})) → InOrder ts → dict.entries (ordered (set_of ts)) ≡ entries_of ts
 facts-entries ts h =
-    ap dict.entries (dict.same_map key_total key_ties (ordered (set_of ts)) (dict.from_sorted (entries_of ts)) (λ q. ordered-get ts q h ∙ sym (dict.get-from_sorted key_cmp (entries_of ts) q (entries-rise ts h))))
+    ap dict.entries (dict.same_map key_total key_ties (ordered (set_of ts)) (dict.from_sorted (entries_of ts))
+    (λ q. ordered-get ts q h ∙ sym (dict.get-from_sorted key_cmp (entries_of ts) q (entries-rise ts h))))
     ∙ dict.entries-from_sorted key_cmp (entries_of ts) (entries-rise ts h)
 
 pub facts-back : (ts : PlainTables (Unit {0})) → InOrder ts → group (dict.entries (ordered (set_of ts))) ≡ ts

@@ -26,7 +26,8 @@ some-left [] p = absurd (omega (arith, p))
 some-left (r ∷ rows) p = tt
 
 module _ (ts : List (Named (List (List Value)))) (n i : ℕ) (old : Named (List (List Value))) (k : ℕ) (a : List Value)
-    (f : change.Found fact_row ts n i old) (p : k < length old.rows.value) (t : HoldsAt (λ (r : List Value). row_cmp r a ≡ Equal) old.rows.value k) where
+    (f : change.Found fact_row ts n i old) (p : k < length old.rows.value)
+    (t : HoldsAt (λ (r : List Value). row_cmp r a ≡ Equal) old.rows.value k) where
   only-out : map fact_row (remove old.rows.value k) ≡ where_key row_cmp (other_than row_cmp a) (map fact_row old.rows.value)
   only-out = change.row-taken fact_row ts n i old f a k old.rows.value refl p t
 
@@ -36,14 +37,17 @@ module _ (ts : List (Named (List (List Value)))) (n i : ℕ) (old : Named (List 
     order-out two =
         let l = length-remove old.rows.value k p in
         let m = ap length is in
-        change.order-taken fact_row ts n i old f fresh e a (ap (map fact_row) is ∙ only-out) (some-left fresh.rows.value (omega (arith, l, m, two)))
+        change.order-taken fact_row ts n i old f fresh e a (ap (map fact_row) is ∙ only-out)
+        (some-left fresh.rows.value (omega (arith, l, m, two)))
 
     pub facts-out : set_of (fact_tables (insert (remove ts i) i fresh)) ≡ set.remove (set_of (fact_tables ts)) (n, a)
-    facts-out = set-taken (fact_tables ts) (fact_tables (insert (remove ts i) i fresh)) (n, a) (λ q. change.find-taken-out fact_row ts n i old f fresh e a (ap (map fact_row) is ∙ only-out) q)
+    facts-out = set-taken (fact_tables ts) (fact_tables (insert (remove ts i) i fresh)) (n, a)
+        (λ q. change.find-taken-out fact_row ts n i old f fresh e a (ap (map fact_row) is ∙ only-out) q)
 
   -- it has no other
   pub facts-emptied : 1 ≡ length old.rows.value → set_of (fact_tables (remove ts i)) ≡ set.remove (set_of (fact_tables ts)) (n, a)
   facts-emptied one =
       let l = length-remove old.rows.value k p in
       let none : remove old.rows.value k ≡ [] = nil_from_length (remove old.rows.value k) (omega (arith, l, one)) in
-      set-taken (fact_tables ts) (fact_tables (remove ts i)) (n, a) (λ q. change.find-emptied-out fact_row ts n i old f a (sym only-out ∙ ap (map fact_row) none) q)
+      set-taken (fact_tables ts) (fact_tables (remove ts i)) (n, a) (λ q.
+      change.find-emptied-out fact_row ts n i old f a (sym only-out ∙ ap (map fact_row) none) q)

@@ -54,7 +54,8 @@ IsNamedByParts facts places w = (n : ℕ) → Each (FactIsNamed n) facts → Eac
 -- where a world, the facts that are added and the places that are set are named, so is the world
 -- after
 abbrev pub StaysNamedWith : World → List Fact → List PlaceValue → World → Type 0
-StaysNamedWith old adds sets new = (n : ℕ) → WorldIsNamed n old → Each (FactIsNamed n) adds → Each (PlaceIsNamed n) sets → WorldIsNamed n new
+StaysNamedWith old adds sets new = (n : ℕ) → WorldIsNamed n old → Each (FactIsNamed n) adds → Each (PlaceIsNamed n) sets →
+    WorldIsNamed n new
 
 -- not every fact of the other world is in the world
 abbrev pub LacksFacts : World → World → Type 0

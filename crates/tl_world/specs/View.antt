@@ -35,4 +35,5 @@ coded_key = coded× coded_ℕ (coded_list coded_value)
 
 -- and worlds, by their facts and their places
 abbrev pub coded_world : Coded World
-coded_world = code_by (set.FinSet key_cmp × dict.FinMap key_cmp Value) (coded× (set.code coded_key) (dict.code coded_key coded_value)) (λ w. (w.facts, w.places)) (λ p. record { facts = p.0; places = p.1 }) (λ w. refl)
+coded_world = code_by (set.FinSet key_cmp × dict.FinMap key_cmp Value) (coded× (set.code coded_key) (dict.code coded_key coded_value))
+    (λ w. (w.facts, w.places)) (λ p. record { facts = p.0; places = p.1 }) (λ w. refl)

@@ -10,4 +10,6 @@ not-so false h = refl
 pub returns-else-at-len : goal.returns-else-at-len
 returns-else-at-len c h =
     let inside : c.args.at < length c.args.rows.now = omega (arith, c.if-at-len.false, c.len.ensures, c.requires.bound) in
-    kept-from c.args.ties (front 0 c.args.lead.now c.args.known.now) c.args.rows.now c.args.at c.row.result.now inside c.row.ensures c.requires.order (ap (is_passed c.args.ties) (sym c.order_of_front.ensures) ∙ (sym c.is_passed.ensures ∙ not-so c.is_passed.result h))
+    kept-from c.args.ties (front 0 c.args.lead.now c.args.known.now) c.args.rows.now c.args.at c.row.result.now inside c.row.ensures
+    c.requires.order (ap (is_passed c.args.ties) (sym c.order_of_front.ensures) ∙
+    (sym c.is_passed.ensures ∙ not-so c.is_passed.result h))

@@ -11,7 +11,9 @@ loop-low-preserved-then-is_passed c =
     record {
       order = omega (arith, below);
       within = c.loop-low.invariant.within;
-      before = passed-up-to c.args.ties (front 0 c.args.lead.now c.args.known.now) c.args.rows.now middle (middle + 1) c.row.result.now refl inside c.row.ensures c.requires (ap (is_passed c.args.ties) (sym c.order_of_front.ensures) ∙ (sym c.is_passed.ensures ∙ c.if-is_passed.true));
+      before = passed-up-to c.args.ties (front 0 c.args.lead.now c.args.known.now) c.args.rows.now middle
+          (middle + 1) c.row.result.now refl inside c.row.ensures c.requires
+          (ap (is_passed c.args.ties) (sym c.order_of_front.ensures) ∙ (sym c.is_passed.ensures ∙ c.if-is_passed.true));
       after = c.loop-low.invariant.after;
     }
 
@@ -24,5 +26,6 @@ loop-low-preserved c =
       order = omega arith;
       within = omega (arith, inside);
       before = c.loop-low.invariant.before;
-      after = kept-from c.args.ties (front 0 c.args.lead.now c.args.known.now) c.args.rows.now middle c.row.result.now inside c.row.ensures c.requires (ap (is_passed c.args.ties) (sym c.order_of_front.ensures) ∙ (sym c.is_passed.ensures ∙ c.if-is_passed.false));
+      after = kept-from c.args.ties (front 0 c.args.lead.now c.args.known.now) c.args.rows.now middle c.row.result.now inside c.row.ensures
+          c.requires (ap (is_passed c.args.ties) (sym c.order_of_front.ensures) ∙ (sym c.is_passed.ensures ∙ c.if-is_passed.false));
     }

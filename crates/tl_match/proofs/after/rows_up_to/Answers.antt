@@ -17,4 +17,6 @@ returns-then-is_after_row-clause-later c =
     let inside : near - 1 < length rows = omega (arith, low, high) in
     let next : near ≡ near - 1 + 1 = omega (arith, low) in
     subst (λ b. HasLater parts b tuple rows near) (sym c.if-begun.true)
-    (after-row parts (length tuple) (c.is_after_row.ensures.turn found) c.requires.each c.requires.slots tuple refl (get_or rows (near - 1) []) (c.is_after_row.ensures.row found) rows (near - 1) near next inside (get_or_default rows (near - 1) [] _ inside) (alike-rows rows c.requires.order))
+    (after-row parts (length tuple) (c.is_after_row.ensures.turn found) c.requires.each c.requires.slots tuple refl
+    (get_or rows (near - 1) []) (c.is_after_row.ensures.row found) rows (near - 1) near next inside
+    (get_or_default rows (near - 1) [] _ inside) (alike-rows rows c.requires.order))

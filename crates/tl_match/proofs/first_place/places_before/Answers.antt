@@ -18,11 +18,14 @@ loop-low-preserved-then-is_gt c =
       order = omega (arith, below);
       within = c.loop-low.invariant.within;
       before = λ j d p q.
-          let here : is_gt (front_cmp f (get_or rows middle d).args) ≡ true = ap (λ a. is_gt (front_cmp f a)) (sym (c.args-in-loop-low.ensures d)) ∙ (ap is_gt (sym c.order_of_front.ensures) ∙ (sym c.is_gt.ensures ∙ c.if-is_gt.true)) in
+          let here : is_gt (front_cmp f (get_or rows middle d).args) ≡ true =
+          ap (λ a. is_gt (front_cmp f a)) (sym (c.args-in-loop-low.ensures d)) ∙
+          (ap is_gt (sym c.order_of_front.ensures) ∙ (sym c.is_gt.ensures ∙ c.if-is_gt.true)) in
           parted key f rows c.requires j middle d (omega (arith, q)) inside here;
     }
 
 pub returns-clause-before : goal.returns-clause-before
 returns-clause-before c =
     let key : PlaceRow → List Value = λ r. r.args in
-    each-before key (front 0 c.args.lead.now c.args.known.now) c.args.rows.now c.loop-low.low (omega (arith, c.loop-low.invariant.order, c.loop-low.invariant.within)) c.loop-low.invariant.before
+    each-before key (front 0 c.args.lead.now c.args.known.now) c.args.rows.now c.loop-low.low
+    (omega (arith, c.loop-low.invariant.order, c.loop-low.invariant.within)) c.loop-low.invariant.before

@@ -25,8 +25,10 @@ returns-then-is_after_place-clause-later c =
     let other : PlaceRow = record { args = []; value = Sym 0 } in
     let row : PlaceRow = get_or rows (near - 1) other in
     subst (λ b. HasLater parts b tuple (map whole_row rows) near) (sym c.if-begun.true)
-    (after-row parts (length tuple) (c.is_after_place.ensures.turn found) c.requires.each c.requires.slots tuple refl (whole_row row) (c.is_after_place.ensures.row found other)
-    (map whole_row rows) (near - 1) near next (subst (λ n. near - 1 < n) (sym (length-map rows whole_row)) inside) (sym (get_or-map whole_row rows (near - 1) other (whole_row row) inside)) (alike-whole rows c.requires.order))
+    (after-row parts (length tuple) (c.is_after_place.ensures.turn found) c.requires.each c.requires.slots tuple refl (whole_row row)
+    (c.is_after_place.ensures.row found other)
+    (map whole_row rows) (near - 1) near next (subst (λ n. near - 1 < n) (sym (length-map rows whole_row)) inside)
+    (sym (get_or-map whole_row rows (near - 1) other (whole_row row) inside)) (alike-whole rows c.requires.order))
 
 pub returns-then-are_in_turn-clause-later : goal.returns-then-are_in_turn-clause-later
 returns-then-are_in_turn-clause-later c =
@@ -34,4 +36,5 @@ returns-then-are_in_turn-clause-later c =
     let parts = c.args.parts.now in
     let rows = c.args.rows.now in
     subst (λ b. HasLater parts b c.args.tuple.now (map whole_row rows) c.places_before.result) (sym c.if-begun.false)
-    (λ t st. all-kept key whole_row (take (length parts - 1) parts) parts (leading-fits parts) rows c.places_before.result c.places_before.ensures.before t)
+    (λ t st. all-kept key whole_row (take (length parts - 1) parts) parts
+    (leading-fits parts) rows c.places_before.result c.places_before.ensures.before t)

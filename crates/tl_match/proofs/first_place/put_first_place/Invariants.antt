@@ -7,7 +7,8 @@ use Rattle.tl_match.proofs.first_place.put_first_place.Given as goal
 abbrev pub invariant-loop-k : goal.invariant-loop-k
 invariant-loop-k l = record {
   within : l.k ≤ length l.rows;
-  same : (t : List Value) → fits_some l.parts (drop l.from (map whole_row l.rows)) t ≡ fits_some l.parts (drop l.k (map whole_row l.rows)) t;
+  same : (t : List Value) → fits_some l.parts (drop l.from (map whole_row l.rows)) t ≡
+      fits_some l.parts (drop l.k (map whole_row l.rows)) t;
 }
 
 abbrev pub decreases-loop-k : goal.decreases-loop-k

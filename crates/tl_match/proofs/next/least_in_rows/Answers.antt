@@ -18,10 +18,13 @@ loop-k-init c =
     let parts = c.args.parts.now in
     let rows = c.args.rows.now in
     let f = front 0 parts c.values_of.result.now in
-    let before = subst (λ f. Each (λ r. front_cmp f r ≡ Greater) (take c.rows_before-k.result rows)) (ap (front 0 parts) c.values_of.ensures.value) (passed-greater f (take c.rows_before-k.result rows) c.rows_before-k.ensures.before) in
+    let before = subst (λ f. Each (λ r. front_cmp f r ≡ Greater) (take c.rows_before-k.result rows))
+    (ap (front 0 parts) c.values_of.ensures.value) (passed-greater f (take c.rows_before-k.result rows) c.rows_before-k.ensures.before)
+    in
     record {
       within = c.rows_before-k.ensures.bound;
-      least = subst (λ ws. IsLeast c.args.free (λ t. fits_some parts (take c.rows_before-k.result ws) t && above c.args.after.now c.args.free t) _) (map-id rows)
+      least = subst (λ ws. IsLeast c.args.free (λ t. fits_some parts (take c.rows_before-k.result ws) t && above c.args.after.now
+          c.args.free t) _) (map-id rows)
           (least-skipped same same parts parts (λ a t h. h) c.args.after.now c.args.free rows c.rows_before-k.result before);
     }
 
@@ -33,10 +36,13 @@ returns-then-is_past c =
     let best = c.loop-k.best in
     let row = c.row-row.result.now in
     let inside : c.loop-k.k < length rows = omega (arith, c.loop-k-test.true, c.len.ensures) in
-    let past = subst (λ r. is_lt (front_cmp (front 0 parts (known_of best c.args.free)) r) ≡ _) c.row-row.ensures (sym c.is_past.ensures ∙ c.if-is_past.true) in
+    let past = subst (λ r. is_lt (front_cmp (front 0 parts (known_of best c.args.free)) r) ≡ _) c.row-row.ensures
+    (sym c.is_past.ensures ∙ c.if-is_past.true) in
     subst (λ ws. IsLeast c.args.free (λ t. fits_some parts ws t && above c.args.after.now c.args.free t) best) (map-id rows)
-    (least-past same same parts parts (λ a t h. h) c.args.after.now best c.args.free rows c.loop-k.k row inside (subst (Rises row_cmp) (sym (map-id rows)) c.requires.order) past
-    (subst (λ ws. IsLeast c.args.free (λ t. fits_some parts (take c.loop-k.k ws) t && above c.args.after.now c.args.free t) best) (sym (map-id rows)) c.loop-k.invariant.least))
+    (least-past same same parts parts (λ a t h. h) c.args.after.now best c.args.free rows c.loop-k.k row inside
+    (subst (Rises row_cmp) (sym (map-id rows)) c.requires.order) past
+    (subst (λ ws. IsLeast c.args.free (λ t. fits_some parts (take c.loop-k.k ws) t && above c.args.after.now c.args.free t) best)
+    (sym (map-id rows)) c.loop-k.invariant.least))
 
 pub loop-k-preserved : goal.loop-k-preserved
 loop-k-preserved c =
@@ -46,6 +52,8 @@ loop-k-preserved c =
     let inside : c.loop-k.k < length rows = omega (arith, c.loop-k-test.true, c.len.ensures) in
     record {
       within = omega (arith, inside);
-      least = subst (λ b. IsLeast c.args.free (λ t. fits_some parts (take (c.loop-k.k + 1) rows) t && above c.args.after.now c.args.free t) b) (sym c.lesser-best.ensures)
-          (least-step parts c.args.free c.args.after.now rows c.loop-k.k inside row (sym c.row-row.ensures) c.loop-k.best c.match_row.result c.match_row.ensures c.loop-k.invariant.least);
+      least = subst (λ b. IsLeast c.args.free (λ t. fits_some parts (take (c.loop-k.k + 1) rows) t && above c.args.after.now c.args.free t)
+          b) (sym c.lesser-best.ensures)
+          (least-step parts c.args.free c.args.after.now rows c.loop-k.k inside row
+          (sym c.row-row.ensures) c.loop-k.best c.match_row.result c.match_row.ensures c.loop-k.invariant.least);
     }

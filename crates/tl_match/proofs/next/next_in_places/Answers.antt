@@ -20,7 +20,8 @@ loop-k-init c =
     let parts = c.args.parts.now in
     let lead = take (length parts - 1) parts in
     let rows = c.args.rows.now in
-    let before = subst (λ f. Each (λ r. front_cmp f (key r) ≡ Greater) (take c.places_before-k.result rows)) (ap (front 0 lead) c.values_of.ensures.value) c.places_before-k.ensures.before in
+    let before = subst (λ f. Each (λ r. front_cmp f (key r) ≡ Greater) (take c.places_before-k.result rows))
+    (ap (front 0 lead) c.values_of.ensures.value) c.places_before-k.ensures.before in
     record {
       within = c.places_before-k.ensures.bound;
       leading = refl;
@@ -35,8 +36,10 @@ returns-then-is_past c =
     let rows = c.args.rows.now in
     let best = c.loop-k.best in
     let row = c.place-row.result in
-    let past = subst (λ r. is_lt (front_cmp (front 0 lead (known_of best c.args.free)) r) ≡ _) (c.place_args.ensures ∙ ap key (c.place-row.ensures _)) (sym c.is_past.ensures ∙ c.if-is_past.true) in
-    least-past key whole_row lead parts (leading-fits parts) c.args.after.now best c.args.free rows c.loop-k.k row (omega (arith, c.loop-k-test.true, c.len.ensures)) c.requires.order past c.loop-k.invariant.least
+    let past = subst (λ r. is_lt (front_cmp (front 0 lead (known_of best c.args.free)) r) ≡ _)
+    (c.place_args.ensures ∙ ap key (c.place-row.ensures _)) (sym c.is_past.ensures ∙ c.if-is_past.true) in
+    least-past key whole_row lead parts (leading-fits parts) c.args.after.now best c.args.free rows c.loop-k.k row
+    (omega (arith, c.loop-k-test.true, c.len.ensures)) c.requires.order past c.loop-k.invariant.least
 
 pub loop-k-preserved : goal.loop-k-preserved
 loop-k-preserved c =
@@ -44,10 +47,13 @@ loop-k-preserved c =
     let rows = c.args.rows.now in
     let row = c.place-row.result in
     let below = subst (λ n. c.loop-k.k < n) (sym (length-map rows whole_row)) (omega (arith, c.loop-k-test.true, c.len.ensures)) in
-    let here = get_or-map whole_row rows c.loop-k.k row (whole_row row) (omega (arith, c.loop-k-test.true, c.len.ensures)) ∙ ap whole_row (sym (c.place-row.ensures _)) in
+    let here = get_or-map whole_row rows c.loop-k.k row (whole_row row) (omega (arith, c.loop-k-test.true, c.len.ensures)) ∙
+    ap whole_row (sym (c.place-row.ensures _)) in
     record {
       within = omega (arith, c.loop-k-test.true, c.len.ensures);
       leading = refl;
-      least = subst (λ b. IsLeast c.args.free (λ t. fits_some parts (take (c.loop-k.k + 1) (map whole_row rows)) t && above c.args.after.now c.args.free t) b) (sym c.lesser-best.ensures)
-          (least-step parts c.args.free c.args.after.now (map whole_row rows) c.loop-k.k below (whole_row row) here c.loop-k.best c.match_place.result c.match_place.ensures c.loop-k.invariant.least);
+      least = subst (λ b. IsLeast c.args.free (λ t. fits_some parts (take (c.loop-k.k + 1) (map whole_row rows)) t && above c.args.after.now
+          c.args.free t) b) (sym c.lesser-best.ensures)
+          (least-step parts c.args.free c.args.after.now (map whole_row rows) c.loop-k.k below
+          (whole_row row) here c.loop-k.best c.match_place.result c.match_place.ensures c.loop-k.invariant.least);
     }

@@ -5,7 +5,8 @@ use Rattle.tl_match.proofs.next.put_next_in_places.Goals as goal
 
 pub returns-in-Some-put_first_place : goal.returns-in-Some-put_first_place
 returns-in-Some-put_first_place c =
-    least-later c.args.parts.now (map whole_row c.args.rows.now) c.args.free c.args.begun c.args.tuple.now c.in-Some.from (Some (record { values = c.put_first_place.new.values; len = c.args.free }))
+    least-later c.args.parts.now (map whole_row c.args.rows.now) c.args.free c.args.begun c.args.tuple.now c.in-Some.from
+    (Some (record { values = c.put_first_place.new.values; len = c.args.free }))
     (length-take-le c.args.free c.args.tuple.now.values (omega (arith, c.requires.few)))
     c.in-Some.ensures.later c.in-Some-put_first_place.ensures
 

@@ -10,8 +10,10 @@ returns-then-fits c = (
   refl,
   length-take-le _ _ (omega (arith, c.gather-values.ensures.size, c.requires.few)),
   sym c.fits.ensures ∙ c.if-fits.true,
-  λ t size h. only-gathered c.args.parts.now c.args.row.now c.gather-values.result t c.args.free c.gather-values.ensures.known c.requires.few c.requires.each size h,
+  λ t size h. only-gathered c.args.parts.now c.args.row.now c.gather-values.result t c.args.free c.gather-values.ensures.known
+      c.requires.few c.requires.each size h,
 )
 
 pub returns-else-fits : goal.returns-else-fits
-returns-else-fits c t size = never-else c.args.parts.now c.args.row.now c.gather-values.result t c.args.free _ refl (sym c.if-fits.false ∙ c.fits.ensures) c.gather-values.ensures.known c.requires.few c.requires.each size
+returns-else-fits c t size = never-else c.args.parts.now c.args.row.now c.gather-values.result t c.args.free _ refl
+    (sym c.if-fits.false ∙ c.fits.ensures) c.gather-values.ensures.known c.requires.few c.requires.each size

@@ -23,7 +23,8 @@ loop-j-preserved c =
     record {
       within = omega (arith, c.loop-j-test.true);
       size = length-set c.loop-j.values.items (at + j) x ∙ c.loop-j.invariant.size;
-      made = ap (λ ys. slice_set ys (at + j) x) c.loop-j.invariant.made ∙ paste_more xs at row j (Int (pos 0)) (omega (arith, c.requires, c.loop-j-test.true)) c.loop-j-test.true;
+      made = ap (λ ys. slice_set ys (at + j) x) c.loop-j.invariant.made ∙
+          paste_more xs at row j (Int (pos 0)) (omega (arith, c.requires, c.loop-j-test.true)) c.loop-j-test.true;
     }
 
 pub returns : goal.returns

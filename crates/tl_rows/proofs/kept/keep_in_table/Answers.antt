@@ -11,4 +11,5 @@ returns c =
     let old = c.remove-old.result in
     let fresh : Named (List (List Value)) = record { name = old.name; rows = c.in_ok-rows.rows } in
     ap fact_tables (c.in_ok-insert.ensures.items ∙ ap (λ ts. insert ts c.args.i fresh) c.remove-old.ensures.items)
-    ∙ map-same-at fact_table c.args.tables.now.items c.args.i fresh old c.requires ((λ j. (old.name, map fact_row (c.in_ok-rows.ensures j))) ∙ ap fact_table c.remove-old.ensures.value)
+    ∙ map-same-at fact_table c.args.tables.now.items c.args.i fresh old c.requires
+    ((λ j. (old.name, map fact_row (c.in_ok-rows.ensures j))) ∙ ap fact_table c.remove-old.ensures.value)

@@ -9,4 +9,5 @@ returns c =
       | then-loop-k-test+else-k-args w ↦ inr (omega (arith, w.if-k-args))
       | else-loop-k-test w ↦ inl (omega (arith, w.loop-k-test))
     ] in
-    c.cmp.ensures ∙ (by-length c.loop-k.k c.args.row.now c.args.args.now c.loop-k.invariant.within c.loop-k.invariant.within_args ended ∙ sym c.loop-k.invariant.left)
+    c.cmp.ensures ∙ (by-length c.loop-k.k c.args.row.now c.args.args.now c.loop-k.invariant.within c.loop-k.invariant.within_args ended ∙
+    sym c.loop-k.invariant.left)

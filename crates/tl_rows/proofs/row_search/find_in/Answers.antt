@@ -11,7 +11,8 @@ loop-low-preserved-in-Less c =
     record {
       order = omega (arith, below);
       within = c.loop-low.invariant.within;
-      before = all-less (λ r. row_cmp r c.args.args.now) c.args.rows.now middle c.row.result.now inside c.row.ensures (middle + 1) refl (sym c.order_of.ensures ∙ c.in-Less.is);
+      before = all-less (λ r. row_cmp r c.args.args.now) c.args.rows.now middle c.row.result.now inside c.row.ensures (middle + 1) refl
+          (sym c.order_of.ensures ∙ c.in-Less.is);
       after = c.loop-low.invariant.after;
     }
 
@@ -24,5 +25,6 @@ loop-low-preserved c =
       order = omega arith;
       within = omega (arith, inside);
       before = c.loop-low.invariant.before;
-      after = all-greater (λ r. row_cmp r c.args.args.now) c.args.rows.now middle c.row.result.now inside c.row.ensures (sym c.order_of.ensures ∙ c.in-Greater.is);
+      after = all-greater (λ r. row_cmp r c.args.args.now) c.args.rows.now middle c.row.result.now inside c.row.ensures
+          (sym c.order_of.ensures ∙ c.in-Greater.is);
     }

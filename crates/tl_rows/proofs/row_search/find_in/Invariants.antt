@@ -10,7 +10,8 @@ invariant-loop-low l = record {
   order : l.low ≤ l.high;
   within : l.high ≤ length l.rows;
   before : IsNonDecreasingBy (λ r. ordering_index (row_cmp r l.args)) l.rows → AllWithin (λ r. row_cmp r l.args ≡ Less) l.rows 0 l.low;
-  after : IsNonDecreasingBy (λ r. ordering_index (row_cmp r l.args)) l.rows → AllWithin (λ r. row_cmp r l.args ≡ Greater) l.rows l.high (length l.rows);
+  after : IsNonDecreasingBy (λ r. ordering_index (row_cmp r l.args)) l.rows →
+      AllWithin (λ r. row_cmp r l.args ≡ Greater) l.rows l.high (length l.rows);
 }
 
 abbrev pub decreases-loop-low : goal.decreases-loop-low

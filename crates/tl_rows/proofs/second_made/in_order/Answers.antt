@@ -21,5 +21,6 @@ loop-k-preserved c =
     record {
       within = omega (arith, below);
       rows = c.in_ok-push.ensures ∙ ((λ i. c.loop-k.invariant.rows i ++ c.row_at.ensures none i ∷ []) ∙ sym (take_more rows k none below));
-      order = rises-more rows k x y below (row-itself rows k none x below) (λ p. row-itself rows (k - 1) none y (omega (arith, below))) (λ p. c.is_in_turn.ensures c.if-not-is_in_turn.false p none) c.loop-k.invariant.order;
+      order = rises-more rows k x y below (row-itself rows k none x below) (λ p. row-itself rows (k - 1) none y (omega (arith, below)))
+          (λ p. c.is_in_turn.ensures c.if-not-is_in_turn.false p none) c.loop-k.invariant.order;
     }

@@ -9,7 +9,8 @@ pub begins_after-requires : goal.begins_after-requires
 begins_after-requires c =
     let at = c.loop-low.low + (c.loop-low.high - c.loop-low.low) / 2 in
     let inside : at < length c.args.runs.now = omega (arith, c.loop-low.invariant.within, c.loop-low-test.true) in
-    subst (λ xs. 0 < length xs) (sym c.as_ref.ensures) (found-some c.args.runs.now c.args.runs.now at c.index-runs-middle.result refl c.requires.counted inside)
+    subst (λ xs. 0 < length xs) (sym c.as_ref.ensures) (found-some c.args.runs.now c.args.runs.now at c.index-runs-middle.result refl
+    c.requires.counted inside)
 
 pub loop-low-preserved-then-begins_after : goal.loop-low-preserved-then-begins_after
 loop-low-preserved-then-begins_after c =
@@ -22,7 +23,8 @@ loop-low-preserved-then-begins_after c =
       order = omega (arith, c.loop-low-test.true);
       within = omega (arith, inside);
       before = c.loop-low.invariant.before;
-      after = λ _. subst (λ r. row_cmp r c.args.args.now ≡ Greater) (sym first) (is-after _ (sym c.begins_after.ensures ∙ c.if-begins_after.true));
+      after = λ _. subst (λ r. row_cmp r c.args.args.now ≡ Greater) (sym first)
+          (is-after _ (sym c.begins_after.ensures ∙ c.if-begins_after.true));
     }
 
 pub loop-low-preserved : goal.loop-low-preserved
@@ -35,6 +37,7 @@ loop-low-preserved c =
     record {
       order = omega (arith, c.loop-low-test.true);
       within = c.loop-low.invariant.within;
-      before = λ _ g. not-after _ (sym c.begins_after.ensures ∙ c.if-begins_after.false) (subst (λ r. row_cmp r c.args.args.now ≡ Greater) first g);
+      before = λ _ g. not-after _ (sym c.begins_after.ensures ∙ c.if-begins_after.false)
+          (subst (λ r. row_cmp r c.args.args.now ≡ Greater) first g);
       after = c.loop-low.invariant.after;
     }

@@ -14,10 +14,12 @@ loop-j-preserved c =
     let d = c.index_mut.result.now in
     let next : c.loop-j.j ≡ suc m = omega (arith, c.loop-j-test.true) in
     let below : m < length xs = omega (arith, next, c.loop-j.invariant.within) in
-    let made : here ≡ take (suc m) xs ++ map raised (drop (suc m) xs) = c.loop-j.invariant.made ∙ ap (λ n. take n xs ++ map raised (drop n xs)) next in
+    let made : here ≡ take (suc m) xs ++ map raised (drop (suc m) xs) = c.loop-j.invariant.made ∙
+    ap (λ n. take n xs ++ map raised (drop n xs)) next in
     let inside : m < length here = omega (arith, below, ap length made, same-length raised xs (suc m)) in
     let old : d ≡ get_or xs m d = c.index_mut.ensures.value ∙ (ap (λ ys. get_or ys m d) made ∙ not-yet raised xs m d below) in
-    let read : c.index.result.now ≡ d = c.index.ensures ∙ (get_or_default here m c.index.result.now d inside ∙ sym c.index_mut.ensures.value) in
+    let read : c.index.result.now ≡ d = c.index.ensures ∙ (get_or_default here m c.index.result.now d inside ∙
+    sym c.index_mut.ensures.value) in
     let with_end : ℕ → Run = λ n. record { rows = d.rows; end = n } in
     let new = ap (λ (r : Run). with_end ((r.end + 1) % 2 ^ 64)) read ∙ ap raised old in
     record {

@@ -21,12 +21,15 @@ loop-k-init c =
     record {
       within = c.places_before-k.ensures.bound;
       leading = refl;
-      tuples = subst (AreTuplesOf c.args.free parts (take from (map whole_row rows))) (sym c.new-tuples.ensures.items) (none-yet c.args.free parts (take from (map whole_row rows))
-          (least-skipped key whole_row (take (length parts - 1) parts) parts (leading-fits parts) None c.args.free rows from c.places_before-k.ensures.before));
+      tuples = subst (AreTuplesOf c.args.free parts (take from (map whole_row rows))) (sym c.new-tuples.ensures.items)
+          (none-yet c.args.free parts (take from (map whole_row rows))
+          (least-skipped key whole_row (take (length parts - 1) parts) parts
+          (leading-fits parts) None c.args.free rows from c.places_before-k.ensures.before));
     }
 
 pub push_match-requires : goal.push_match-requires
-push_match-requires c = few-matched c.args.free c.args.parts.now (whole_row c.place-row.result) c.match_place.result c.requires.few c.match_place.ensures
+push_match-requires c = few-matched c.args.free c.args.parts.now (whole_row c.place-row.result) c.match_place.result c.requires.few
+    c.match_place.ensures
 
 pub returns-then-is_lt : goal.returns-then-is_lt
 returns-then-is_lt c =
@@ -37,9 +40,11 @@ returns-then-is_lt c =
     let row = c.place-row.result in
     let lead = take (length parts - 1) parts in
     let inside : k < length rows = omega (arith, c.loop-k-test.true, c.len.ensures) in
-    let less : is_lt (front_cmp (front 0 lead []) row.args) ≡ true = ap (λ r. is_lt (front_cmp (front 0 lead []) r)) (sym c.place_args.ensures) ∙ (ap is_lt (sym c.order_of_front.ensures) ∙ (sym c.is_lt.ensures ∙ c.if-is_lt.true)) in
+    let less : is_lt (front_cmp (front 0 lead []) row.args) ≡ true = ap (λ r. is_lt (front_cmp (front 0 lead []) r))
+    (sym c.place_args.ensures) ∙ (ap is_lt (sym c.order_of_front.ensures) ∙ (sym c.is_lt.ensures ∙ c.if-is_lt.true)) in
     no-more c.args.free parts (map whole_row rows) k c.loop-k.tuples.items
-    (none-past key whole_row lead parts (leading-fits parts) rows k row inside c.requires.order (subst (λ (r : PlaceRow). is_lt (front_cmp (front 0 lead []) r.args) ≡ true) (c.place-row.ensures _) less))
+    (none-past key whole_row lead parts (leading-fits parts) rows k row inside c.requires.order
+    (subst (λ (r : PlaceRow). is_lt (front_cmp (front 0 lead []) r.args) ≡ true) (c.place-row.ensures _) less))
     c.loop-k.invariant.tuples
 
 pub loop-k-preserved : goal.loop-k-preserved
@@ -55,7 +60,8 @@ loop-k-preserved c =
       within = omega (arith, inside);
       leading = refl;
       tuples = subst (AreTuplesOf c.args.free parts (take (k + 1) (map whole_row rows))) (sym c.in_ok-push_match.ensures)
-          (one-more c.args.free parts (map whole_row rows) k below (whole_row row) here c.loop-k.tuples.items c.match_place.result c.match_place.ensures c.loop-k.invariant.tuples);
+          (one-more c.args.free parts (map whole_row rows) k below (whole_row row) here c.loop-k.tuples.items c.match_place.result
+          c.match_place.ensures c.loop-k.invariant.tuples);
     }
 
 pub returns : goal.returns
@@ -64,4 +70,6 @@ returns c =
     let rows = c.args.rows.now in
     let k = c.loop-k.k in
     let l = length-map rows whole_row in
-    no-more c.args.free parts (map whole_row rows) k c.loop-k.tuples.items (λ t. ap (λ ws. fits_some parts ws t) (drop_all k (map whole_row rows) (omega (arith, c.loop-k-test.false, c.len.ensures, l)))) c.loop-k.invariant.tuples
+    no-more c.args.free parts (map whole_row rows) k c.loop-k.tuples.items
+    (λ t. ap (λ ws. fits_some parts ws t) (drop_all k (map whole_row rows) (omega (arith, c.loop-k-test.false, c.len.ensures, l))))
+    c.loop-k.invariant.tuples

@@ -11,4 +11,5 @@ all-kept (r ∷ rows) = (refl, all-kept rows)
 pub returns-then-begins_free : goal.returns-then-begins_free
 returns-then-begins_free c =
     let rows = c.args.rows.now in
-    subst (λ (f : List Value). IsFirstKept false f rows 0) (sym (c.begins_free.ensures c.if-begins_free.true)) (record { bound = omega arith; before = tt; after = all-kept rows })
+    subst (λ (f : List Value). IsFirstKept false f rows 0) (sym (c.begins_free.ensures c.if-begins_free.true))
+    (record { bound = omega arith; before = tt; after = all-kept rows })

@@ -12,12 +12,15 @@ put_first-requires-clause-slots c n o = (c.requires.pattern.each n).0 ((occurs-a
 
 pub returns-in-Some-clause-puts : goal.returns-in-Some-clause-puts
 returns-in-Some-clause-puts c =
-    least-later (parts_of c.args.pattern.now) c.args.rows.now c.args.pattern.now.free c.args.begun c.args.tuple.now c.args.place.now (Some (record { values = c.put_first.new.values; len = c.args.pattern.now.free }))
-    (length-take-le c.args.pattern.now.free c.args.tuple.now.values (omega (arith, c.requires.pattern.variables, c.room.ensures.nine, c.room.ensures.values)))
+    least-later (parts_of c.args.pattern.now) c.args.rows.now c.args.pattern.now.free c.args.begun c.args.tuple.now c.args.place.now
+    (Some (record { values = c.put_first.new.values; len = c.args.pattern.now.free }))
+    (length-take-le c.args.pattern.now.free c.args.tuple.now.values (omega
+    (arith, c.requires.pattern.variables, c.room.ensures.nine, c.room.ensures.values)))
     c.requires.later c.in-Some.ensures.least
 
 pub returns-in-None-clause-puts : goal.returns-in-None-clause-puts
 returns-in-None-clause-puts c =
     least-later (parts_of c.args.pattern.now) c.args.rows.now c.args.pattern.now.free c.args.begun c.args.tuple.now c.args.place.now None
-    (length-take-le c.args.pattern.now.free c.args.tuple.now.values (omega (arith, c.requires.pattern.variables, c.room.ensures.nine, c.room.ensures.values)))
+    (length-take-le c.args.pattern.now.free c.args.tuple.now.values (omega
+    (arith, c.requires.pattern.variables, c.room.ensures.nine, c.room.ensures.values)))
     c.requires.later c.in-None.ensures.least

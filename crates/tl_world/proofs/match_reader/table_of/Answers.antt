@@ -25,5 +25,7 @@ returns c =
           ∙ (fact-truth w p.name rows c.in-Some.ensures.facts parts t p.free slots size
           ∙ ap (λ b. is_true_of w b p.name (filled parts t)) (sym c.if-pattern.false));
       bound = c.first_place-place.ensures.bound;
-      later = only-later parts p.free turn each slots false (take p.free c.args.tuple.now.values) (length-take-le p.free c.args.tuple.now.values (omega (arith, c.requires.variables, c.room.ensures.nine, c.room.ensures.values))) runs place c.first_place-place.ensures;
+      later = only-later parts p.free turn each slots false (take p.free c.args.tuple.now.values)
+          (length-take-le p.free c.args.tuple.now.values (omega (arith, c.requires.variables, c.room.ensures.nine, c.room.ensures.values)))
+          runs place c.first_place-place.ensures;
     }

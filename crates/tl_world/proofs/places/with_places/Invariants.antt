@@ -8,7 +8,8 @@ abbrev pub invariant-loop-k : goal.invariant-loop-k
 invariant-loop-k l = record {
   within : l.k ≤ length l.sets;
   order : InOrder (place_tables l.tables.items);
-  now : map_of (place_tables l.tables.items) ≡ overwritten (map_of (place_tables l.initial.tables.items)) (map place_entry (drop l.k l.sets));
+  now : map_of (place_tables l.tables.items) ≡ overwritten (map_of (place_tables l.initial.tables.items))
+      (map place_entry (drop l.k l.sets));
 }
 
 abbrev pub decreases-loop-k : goal.decreases-loop-k

@@ -11,12 +11,15 @@ invariant_of-result c =
     let xs = c.self.inside.values.items in
     let P : List (List Value) → Type 0 = HaveWidth w in
     let wide : HaveWidth w c.args.self.now = subst P c.self.view_is (have-width w n xs c.self.invariant.0) in
-    let all = many w n xs c.args.self.now c.self.invariant.0 c.self.view_is in
-    (c.values_of.ensures.size w wide ∙ sym (ap length c.in_ok-from_slice.ensures.items), omega (arith, all, c.requires.bound, c.self.invariant.1))
+    let all = many w n xs c.args.self.now c.self.invariant.0 c.self.view_is in (
+      c.values_of.ensures.size w wide ∙ sym (ap length c.in_ok-from_slice.ensures.items),
+      omega (arith, all, c.requires.bound, c.self.invariant.1),
+    )
 
 pub returns : goal.returns
 returns c =
     let w = c.self.inside.width in
     let P : List (List Value) → Type 0 = HaveWidth w in
-    let wide : HaveWidth w c.args.self.now = subst P c.self.view_is (have-width w c.self.inside.count c.self.inside.values.items c.self.invariant.0) in
+    let wide : HaveWidth w c.args.self.now = subst P c.self.view_is (have-width w c.self.inside.count c.self.inside.values.items
+    c.self.invariant.0) in
     ap (even_rows w (c.args.to - c.args.from)) c.in_ok-from_slice.ensures.items ∙ c.values_of.ensures.rows w wide

@@ -7,7 +7,8 @@ use Rattle.tl_rows.proofs.flat.Flat.push_rows.Goals as goal
 
 pub overflow_add-self-inside : goal.overflow_add-self-inside
 overflow_add-self-inside c =
-    let all = many c.other.inside.width c.other.inside.count c.other.inside.values.items c.args.other.now c.other.invariant.0 c.other.view_is in
+    let all = many c.other.inside.width c.other.inside.count c.other.inside.values.items c.args.other.now c.other.invariant.0
+    c.other.view_is in
     omega (arith, all, c.requires.bound, c.requires.range, c.other.invariant.1, c.self.invariant.1)
 
 pub invariant_of-self-2 : goal.invariant_of-self-2
@@ -20,7 +21,8 @@ invariant_of-self-2 c =
     let k = c.args.to - c.args.from in
     let P : List (List Value) → Type 0 = HaveWidth u in
     let all = many u m ys c.args.other.now c.other.invariant.0 c.other.view_is in
-    let is = width-of u m ys c.args.other.now c.other.invariant.0 c.other.view_is c.requires.fits.0 c.requires.fits.2 (omega (arith, all, c.requires.bound, c.requires.range)) in
+    let is = width-of u m ys c.args.other.now c.other.invariant.0 c.other.view_is c.requires.fits.0 c.requires.fits.2
+    (omega (arith, all, c.requires.bound, c.requires.range)) in
     let Q : ℕ → Type 0 = λ s. HaveWidth s c.args.self.now in
     let a = alike c.self.inside.width n xs c.args.self.now c.self.invariant.0 c.self.view_is u (subst Q (sym is) c.requires.fits.1) in
     let wide : HaveWidth u c.args.other.now = subst P c.other.view_is (have-width u m ys c.other.invariant.0) in
@@ -40,7 +42,8 @@ returns c =
     let k = c.args.to - c.args.from in
     let P : List (List Value) → Type 0 = HaveWidth u in
     let all = many u m ys c.args.other.now c.other.invariant.0 c.other.view_is in
-    let is = width-of u m ys c.args.other.now c.other.invariant.0 c.other.view_is c.requires.fits.0 c.requires.fits.2 (omega (arith, all, c.requires.bound, c.requires.range)) in
+    let is = width-of u m ys c.args.other.now c.other.invariant.0 c.other.view_is c.requires.fits.0 c.requires.fits.2
+    (omega (arith, all, c.requires.bound, c.requires.range)) in
     let Q : ℕ → Type 0 = λ s. HaveWidth s c.args.self.now in
     let a = alike c.self.inside.width n xs c.args.self.now c.self.invariant.0 c.self.view_is u (subst Q (sym is) c.requires.fits.1) in
     let wide : HaveWidth u c.args.other.now = subst P c.other.view_is (have-width u m ys c.other.invariant.0) in

@@ -34,7 +34,8 @@ invariant_of-self-2 c =
     let a = alike c.self.inside.width n xs c.args.self.now c.self.invariant.0 c.self.view_is w c.requires.fits in
     let low : c.args.k ≤ n = omega (arith, all, c.requires.place) in
     let end : c.len-end.result ≡ length xs = search rules in
-    let made = c.shift_back.ensures ∙ (ap (λ ys. items_back ys (w * c.args.k) c.len-end.result row) c.in_ok-extend_from_slice.ensures.items ∙ put-back xs row (w * c.args.k) c.len-end.result end (place-within w n c.args.k xs a.1 low)) in
+    let made = c.shift_back.ensures ∙ (ap (λ ys. items_back ys (w * c.args.k) c.len-end.result row) c.in_ok-extend_from_slice.ensures.items
+    ∙ put-back xs row (w * c.args.k) c.len-end.result end (place-within w n c.args.k xs a.1 low)) in
     (with-size w n xs a.1 c.args.k row refl low ∙ sym (ap length made), omega arith)
 
 pub returns-clause-all : goal.returns-clause-all
@@ -47,5 +48,6 @@ returns-clause-all c =
     let a = alike c.self.inside.width n xs c.args.self.now c.self.invariant.0 c.self.view_is w c.requires.fits in
     let low : c.args.k ≤ n = omega (arith, all, c.requires.place) in
     let end : c.len-end.result ≡ length xs = search rules in
-    let made = c.shift_back.ensures ∙ (ap (λ ys. items_back ys (w * c.args.k) c.len-end.result row) c.in_ok-extend_from_slice.ensures.items ∙ put-back xs row (w * c.args.k) c.len-end.result end (place-within w n c.args.k xs a.1 low)) in
+    let made = c.shift_back.ensures ∙ (ap (λ ys. items_back ys (w * c.args.k) c.len-end.result row) c.in_ok-extend_from_slice.ensures.items
+    ∙ put-back xs row (w * c.args.k) c.len-end.result end (place-within w n c.args.k xs a.1 low)) in
     ap (even_rows w (n + 1)) made ∙ (with-rows w n xs a.1 c.args.k row refl low ∙ ap (λ rs. insert rs c.args.k row) a.0)

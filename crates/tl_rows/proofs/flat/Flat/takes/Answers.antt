@@ -8,4 +8,6 @@ pub returns-else-self-eq0 : goal.returns-else-self-eq0
 returns-else-self-eq0 c e =
     let is = eqb-true c.self.inside.width c.args.width e in
     let P : List (List Value) → Type 0 = HaveWidth c.args.width in
-    subst P (ap (λ w. even_rows w c.self.inside.count c.self.inside.values.items) (sym is) ∙ c.self.view_is) (have-width c.args.width c.self.inside.count c.self.inside.values.items (ap (λ w. w * c.self.inside.count) (sym is) ∙ c.self.invariant.0))
+    subst P (ap (λ w. even_rows w c.self.inside.count c.self.inside.values.items) (sym is) ∙ c.self.view_is)
+    (have-width c.args.width c.self.inside.count c.self.inside.values.items
+    (ap (λ w. w * c.self.inside.count) (sym is) ∙ c.self.invariant.0))

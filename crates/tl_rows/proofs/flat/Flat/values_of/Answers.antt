@@ -11,7 +11,8 @@ overflow_mul-self-inside c =
     let n = c.self.inside.count in
     let xs = c.self.inside.values.items in
     let all = many w n xs c.args.self.now c.self.invariant.0 c.self.view_is in
-    let s = some-size w n c.args.from c.args.to xs c.self.invariant.0 (omega (arith, c.requires.range)) (omega (arith, all, c.requires.bound)) in
+    let s = some-size w n c.args.from c.args.to xs c.self.invariant.0 (omega (arith, c.requires.range))
+    (omega (arith, all, c.requires.bound)) in
     omega (arith, s, c.self.inside.values.small)
 
 pub overflow_mul-self-inside-2 : goal.overflow_mul-self-inside-2
@@ -20,7 +21,8 @@ overflow_mul-self-inside-2 c =
     let n = c.self.inside.count in
     let xs = c.self.inside.values.items in
     let all = many w n xs c.args.self.now c.self.invariant.0 c.self.view_is in
-    let s = some-size w n c.args.from c.args.to xs c.self.invariant.0 (omega (arith, c.requires.range)) (omega (arith, all, c.requires.bound)) in
+    let s = some-size w n c.args.from c.args.to xs c.self.invariant.0 (omega (arith, c.requires.range))
+    (omega (arith, all, c.requires.bound)) in
     omega (arith, s, c.self.inside.values.small)
 
 pub run-requires : goal.run-requires
@@ -29,7 +31,8 @@ run-requires c =
     let n = c.self.inside.count in
     let xs = c.self.inside.values.items in
     let all = many w n xs c.args.self.now c.self.invariant.0 c.self.view_is in
-    let s = some-size w n c.args.from c.args.to xs c.self.invariant.0 (omega (arith, c.requires.range)) (omega (arith, all, c.requires.bound)) in
+    let s = some-size w n c.args.from c.args.to xs c.self.invariant.0 (omega (arith, c.requires.range))
+    (omega (arith, all, c.requires.bound)) in
     omega (arith, s, ap length c.as_slice.ensures.value)
 
 pub returns-clause-rows : goal.returns-clause-rows
@@ -38,10 +41,13 @@ returns-clause-rows c s h =
     let n = c.self.inside.count in
     let xs = c.self.inside.values.items in
     let all = many w n xs c.args.self.now c.self.invariant.0 c.self.view_is in
-    let is : w ≡ s = width-of w n xs c.args.self.now c.self.invariant.0 c.self.view_is s h (omega (arith, all, c.requires.range, c.requires.bound)) in
-    ap (even_rows s (c.args.to - c.args.from)) (c.run.ensures ∙ ap (λ ys. take (w * (c.args.to - c.args.from)) (drop (w * c.args.from) ys)) c.as_slice.ensures.value)
+    let is : w ≡ s = width-of w n xs c.args.self.now c.self.invariant.0 c.self.view_is s h
+    (omega (arith, all, c.requires.range, c.requires.bound)) in
+    ap (even_rows s (c.args.to - c.args.from)) (c.run.ensures ∙ ap (λ ys. take (w * (c.args.to - c.args.from)) (drop (w * c.args.from) ys))
+    c.as_slice.ensures.value)
     ∙ (ap (λ u. even_rows u (c.args.to - c.args.from) (take (w * (c.args.to - c.args.from)) (drop (w * c.args.from) xs))) (sym is)
-    ∙ (some-rows w n c.args.from c.args.to xs (omega (arith, c.requires.range)) (omega (arith, all, c.requires.bound)) ∙ ap (λ rs. between rs c.args.from c.args.to) c.self.view_is))
+    ∙ (some-rows w n c.args.from c.args.to xs (omega (arith, c.requires.range)) (omega (arith, all, c.requires.bound)) ∙
+    ap (λ rs. between rs c.args.from c.args.to) c.self.view_is))
 
 pub returns-clause-size : goal.returns-clause-size
 returns-clause-size c s h =
@@ -49,9 +55,12 @@ returns-clause-size c s h =
     let n = c.self.inside.count in
     let xs = c.self.inside.values.items in
     let all = many w n xs c.args.self.now c.self.invariant.0 c.self.view_is in
-    let is : w ≡ s = width-of w n xs c.args.self.now c.self.invariant.0 c.self.view_is s h (omega (arith, all, c.requires.range, c.requires.bound)) in
-    let t = some-size w n c.args.from c.args.to xs c.self.invariant.0 (omega (arith, c.requires.range)) (omega (arith, all, c.requires.bound)) in
+    let is : w ≡ s = width-of w n xs c.args.self.now c.self.invariant.0 c.self.view_is s h
+    (omega (arith, all, c.requires.range, c.requires.bound)) in
+    let t = some-size w n c.args.from c.args.to xs c.self.invariant.0 (omega (arith, c.requires.range))
+    (omega (arith, all, c.requires.bound)) in
     let d = length-drop (w * c.args.from) xs in
     let m = length-take-le (w * (c.args.to - c.args.from)) (drop (w * c.args.from) xs) (omega (arith, t, d)) in
     ap (λ u. u * (c.args.to - c.args.from)) (sym is)
-    ∙ sym (ap length (c.run.ensures ∙ ap (λ ys. take (w * (c.args.to - c.args.from)) (drop (w * c.args.from) ys)) c.as_slice.ensures.value) ∙ m)
+    ∙ sym (ap length (c.run.ensures ∙ ap (λ ys. take (w * (c.args.to - c.args.from)) (drop (w * c.args.from) ys)) c.as_slice.ensures.value)
+    ∙ m)

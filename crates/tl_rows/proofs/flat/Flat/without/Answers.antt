@@ -6,12 +6,14 @@ use Rattle.tl_rows.proofs.flat.Flat.without.Goals as goal
 
 pub overflow_mul-width : goal.overflow_mul-width
 overflow_mul-width c =
-    let b = row-within c.self.inside.width c.self.inside.count c.self.inside.values.items c.args.self.now c.self.invariant.0 c.self.view_is c.args.k c.requires in
+    let b = row-within c.self.inside.width c.self.inside.count c.self.inside.values.items c.args.self.now c.self.invariant.0 c.self.view_is
+    c.args.k c.requires in
     omega (arith, b, c.self.inside.values.small)
 
 pub values_without-requires : goal.values_without-requires
 values_without-requires c =
-    let b = row-within c.self.inside.width c.self.inside.count c.self.inside.values.items c.args.self.now c.self.invariant.0 c.self.view_is c.args.k c.requires in
+    let b = row-within c.self.inside.width c.self.inside.count c.self.inside.values.items c.args.self.now c.self.invariant.0 c.self.view_is
+    c.args.k c.requires in
     omega (arith, b, ap length c.as_slice.ensures.value)
 
 pub invariant_of-result : goal.invariant_of-result

@@ -15,5 +15,6 @@ returns c =
     let up = c.in_ok-after.ensures.0 in (
       omega (arith, low, up),
       c.in_ok-after.ensures.1,
-      grown-between c.args.self.now c.push_whole.new.self c.push_some.new.self c.args.other.now c.args.k c.in_ok-next.next c.in_ok-after.after low (omega (arith, up)) c.in_ok-next.ensures.2 c.in_ok-after.ensures.2,
+      grown-between c.args.self.now c.push_whole.new.self c.push_some.new.self c.args.other.now c.args.k c.in_ok-next.next
+          c.in_ok-after.after low (omega (arith, up)) c.in_ok-next.ensures.2 c.in_ok-after.ensures.2,
     )

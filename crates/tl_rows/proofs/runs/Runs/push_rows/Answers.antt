@@ -13,5 +13,6 @@ pub loop-k-preserved : goal.loop-k-preserved
 loop-k-preserved c = record {
   low = let p = c.in_ok-k.ensures.0 in omega (arith, c.loop-k.invariant.low, p);
   high = c.in_ok-k.ensures.1;
-  rows = grown-between c.args.self.now c.loop-k.self c.push_more.new.self c.args.other.now c.args.from c.loop-k.k c.in_ok-k.k c.loop-k.invariant.low (let p = c.in_ok-k.ensures.0 in omega (arith, p)) c.loop-k.invariant.rows c.in_ok-k.ensures.2;
+  rows = grown-between c.args.self.now c.loop-k.self c.push_more.new.self c.args.other.now c.args.from c.loop-k.k c.in_ok-k.k
+      c.loop-k.invariant.low (let p = c.in_ok-k.ensures.0 in omega (arith, p)) c.loop-k.invariant.rows c.in_ok-k.ensures.2;
 }

@@ -12,4 +12,5 @@ returns-then-takes-clause-all c =
     let k = c.args.k in
     let n = k - c.len-full.result in
     let at : k ≡ length s + n = omega (arith, c.len-full.ensures.len, c.if-k-full.true) in
-    on-ok c.put_row.result (λ e. ap (λ xs. s ++ xs) e ∙ (insert-back s t n k row at ∙ ap (λ xs. insert xs k row) c.self.view_is)) c.put_row.ensures.all
+    on-ok c.put_row.result (λ e. ap (λ xs. s ++ xs) e ∙ (insert-back s t n k row at ∙ ap (λ xs. insert xs k row) c.self.view_is))
+    c.put_row.ensures.all

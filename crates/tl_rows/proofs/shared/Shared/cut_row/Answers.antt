@@ -15,7 +15,8 @@ cut_in_run-requires c =
     let b = c.begin-from.result in
     let d = c.index_mut.result.now in
     let k = c.args.k in
-    let f = run-found rs c.as_slice.result.now c.as_slice-2.result.now i b k d c.as_slice.ensures.value c.as_slice-2.ensures.value c.self.invariant c.find_run-i.ensures.bound c.find_run-i.ensures.from c.find_run-i.ensures.to c.begin-from.ensures.place in
+    let f = run-found rs c.as_slice.result.now c.as_slice-2.result.now i b k d c.as_slice.ensures.value c.as_slice-2.ensures.value
+    c.self.invariant c.find_run-i.ensures.bound c.find_run-i.ensures.from c.find_run-i.ensures.to c.begin-from.ensures.place in
     let from = f.from in
     let to = f.to in
     let here = c.index_mut.ensures.value in
@@ -28,7 +29,8 @@ invariant_of-self c =
     let b = c.begin-from.result in
     let d = c.index_mut.result.now in
     let k = c.args.k in
-    let f = run-found rs c.as_slice.result.now c.as_slice-2.result.now i b k d c.as_slice.ensures.value c.as_slice-2.ensures.value c.self.invariant c.find_run-i.ensures.bound c.find_run-i.ensures.from c.find_run-i.ensures.to c.begin-from.ensures.place in
+    let f = run-found rs c.as_slice.result.now c.as_slice-2.result.now i b k d c.as_slice.ensures.value c.as_slice-2.ensures.value
+    c.self.invariant c.find_run-i.ensures.bound c.find_run-i.ensures.from c.find_run-i.ensures.to c.begin-from.ensures.place in
     let from = f.from in
     let to = f.to in
     let here = c.index_mut.ensures.value in
@@ -44,7 +46,8 @@ returns-in_err-cut_in_run-clause-same c =
     let b = c.begin-from.result in
     let d = c.index_mut.result.now in
     let k = c.args.k in
-    let f = run-found rs c.as_slice.result.now c.as_slice-2.result.now i b k d c.as_slice.ensures.value c.as_slice-2.ensures.value c.self.invariant c.find_run-i.ensures.bound c.find_run-i.ensures.from c.find_run-i.ensures.to c.begin-from.ensures.place in
+    let f = run-found rs c.as_slice.result.now c.as_slice-2.result.now i b k d c.as_slice.ensures.value c.as_slice-2.ensures.value
+    c.self.invariant c.find_run-i.ensures.bound c.find_run-i.ensures.from c.find_run-i.ensures.to c.begin-from.ensures.place in
     let from = f.from in
     let to = f.to in
     let here = c.index_mut.ensures.value in
@@ -58,7 +61,8 @@ invariant_of-self-2 c =
     let b = c.begin-from.result in
     let d = c.index_mut.result.now in
     let k = c.args.k in
-    let f = run-found rs c.as_slice.result.now c.as_slice-2.result.now i b k d c.as_slice.ensures.value c.as_slice-2.ensures.value c.self.invariant c.find_run-i.ensures.bound c.find_run-i.ensures.from c.find_run-i.ensures.to c.begin-from.ensures.place in
+    let f = run-found rs c.as_slice.result.now c.as_slice-2.result.now i b k d c.as_slice.ensures.value c.as_slice-2.ensures.value
+    c.self.invariant c.find_run-i.ensures.bound c.find_run-i.ensures.from c.find_run-i.ensures.to c.begin-from.ensures.place in
     let from = f.from in
     let to = f.to in
     let here = c.index_mut.ensures.value in
@@ -67,7 +71,13 @@ invariant_of-self-2 c =
     let is = c.in_ok-cut_in_run.ensures.all ∙ ap (λ (u : Run). remove u.rows.value (k - b)) here in
     let read = c.index.ensures ∙ get_or_default rs i c.index.result.now d f.below in
     let q : k - b < length (get_or rs i d).rows.value = omega (arith, from, to) in
-    let two : 1 < length (get_or rs i d).rows.value = omega (arith, c.if-len-le-FEWEST.false, c.len.ensures.len, ap length c.deref.ensures, ap (λ (u : Run). length u.rows.value) read) in
+    let two : 1 < length (get_or rs i d).rows.value = omega (
+      arith,
+      c.if-len-le-FEWEST.false,
+      c.len.ensures.len,
+      ap length c.deref.ensures,
+      ap (λ (u : Run). length u.rows.value) read,
+    ) in
     subst (AreCounted 0) (sym c.lower_ends.ensures) (cut-counted r d 0 rs i (k - b) c.self.invariant f.below end is q two)
 
 pub returns-clause-all : goal.returns-clause-all
@@ -77,7 +87,8 @@ returns-clause-all c _ =
     let b = c.begin-from.result in
     let d = c.index_mut.result.now in
     let k = c.args.k in
-    let f = run-found rs c.as_slice.result.now c.as_slice-2.result.now i b k d c.as_slice.ensures.value c.as_slice-2.ensures.value c.self.invariant c.find_run-i.ensures.bound c.find_run-i.ensures.from c.find_run-i.ensures.to c.begin-from.ensures.place in
+    let f = run-found rs c.as_slice.result.now c.as_slice-2.result.now i b k d c.as_slice.ensures.value c.as_slice-2.ensures.value
+    c.self.invariant c.find_run-i.ensures.bound c.find_run-i.ensures.from c.find_run-i.ensures.to c.begin-from.ensures.place in
     let from = f.from in
     let to = f.to in
     let here = c.index_mut.ensures.value in
@@ -85,4 +96,5 @@ returns-clause-all c _ =
     let is = c.in_ok-cut_in_run.ensures.all ∙ ap (λ (u : Run). remove u.rows.value (k - b)) here in
     let q : k - b < length (get_or rs i d).rows.value = omega (arith, from, to) in
     let at : k ≡ run_place rs i + (k - b) = let place = f.place in omega (arith, place, from) in
-    ap rows_in c.lower_ends.ensures ∙ (lowered-rows (set rs i r) i ∙ (cut-rows r d rs i (k - b) k f.below is q at ∙ ap (λ xs. remove xs k) c.self.view_is))
+    ap rows_in c.lower_ends.ensures ∙ (lowered-rows (set rs i r) i ∙ (cut-rows r d rs i (k - b) k f.below is q at ∙
+    ap (λ xs. remove xs k) c.self.view_is))

@@ -15,4 +15,5 @@ invariant_of-self-2 c =
 pub returns : goal.returns
 returns c =
     let run : Run = record { rows = c.args.rows; end = c.len.result + c.len-count.result } in
-    ap rows_in c.in_ok-push.ensures.items ∙ (rows_in-pushed c.self.inside.runs.items run ∙ ap (λ xs. xs ++ c.args.rows.value) c.self.view_is)
+    ap rows_in c.in_ok-push.ensures.items ∙ (rows_in-pushed c.self.inside.runs.items run ∙
+    ap (λ xs. xs ++ c.args.rows.value) c.self.view_is)

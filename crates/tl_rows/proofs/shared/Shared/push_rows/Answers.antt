@@ -15,5 +15,6 @@ returns c =
     let both : c.push-2.new.self ++ c.in_ok-back.back.value ≡ before ++ c.args.rows =
     (λ i. first i ++ back i)
     ∙ (append_assoc before (between c.args.rows 0 half) (between c.args.rows half count)
-    ∙ ap (λ xs. before ++ xs) (between-joined c.args.rows 0 half count (let m : 0 ≤ half = omega arith in m) (let m : half ≤ count = omega arith in m) ∙ between-all c.args.rows count c.len-count.ensures.len)) in
+    ∙ ap (λ xs. before ++ xs) (between-joined c.args.rows 0 half count (let m : 0 ≤ half = omega arith in m)
+    (let m : half ≤ count = omega arith in m) ∙ between-all c.args.rows count c.len-count.ensures.len)) in
     subst (λ xs. OnOk c.push-3.result (c.push-3.new.self ≡ xs)) both c.push-3.ensures

@@ -12,7 +12,8 @@ returns-then-not-is_whole-clause-range c =
     let low : c.args.k ≤ run_place runs c.loop-i.i = c.loop-i.invariant.low in
     let high : run_place runs c.loop-i.i ≤ c.args.to = c.loop-i.invariant.high in
     let within = (run-part runs c.loop-i.i c.index-runs-i.result c.loop-i-test.true).within in
-    let all : length (rows_in runs) ≡ length c.args.other.now = ap (λ rs. length (rows_in rs)) c.as_slice-runs.ensures.value ∙ ap length c.other.view_is in
+    let all : length (rows_in runs) ≡ length c.args.other.now = ap (λ rs. length (rows_in rs)) c.as_slice-runs.ensures.value ∙
+    ap length c.other.view_is in
     (omega (arith, place, low), omega (arith, place, high), omega (arith, place, within, all))
 
 pub loop-i-preserved : goal.loop-i-preserved
@@ -24,7 +25,8 @@ loop-i-preserved c =
     let below : i < length runs = c.loop-i-test.true in
     let counted : AreCounted 0 runs = subst (AreCounted 0) (sym c.as_slice-runs.ensures.value) c.other.invariant in
     let far = found-end runs runs i (run_place runs i) r refl counted below refl in
-    let end : (get_or runs i c.index-runs-i.result).end ≡ run_place runs (i + 1) = end-is-place runs i c.index-runs-i.result counted below in
+    let end : (get_or runs i c.index-runs-i.result).end ≡ run_place runs (i + 1) =
+    end-is-place runs i c.index-runs-i.result counted below in
     let last : c.index-runs-i.result.end ≡ (get_or runs i c.index-runs-i.result).end = ap (λ x. x.end) c.index-runs-i.is in
     let up = c.is_whole.ensures c.if-not-is_whole.false in
     let part = run-part runs i r below in
@@ -36,5 +38,7 @@ loop-i-preserved c =
       within = omega (arith, below);
       low = let low = c.loop-i.invariant.low in omega (arith, low, on);
       high = omega (arith, up, last, end);
-      rows = grown-between c.args.self.now c.loop-i.self c.push.new.self all c.args.k (run_place runs i) (run_place runs (i + 1)) c.loop-i.invariant.low on c.loop-i.invariant.rows (c.in_ok-push.ensures ∙ ap (λ xs. c.loop-i.self ++ xs) run);
+      rows = grown-between c.args.self.now c.loop-i.self c.push.new.self all c.args.k (run_place runs i)
+          (run_place runs (i + 1)) c.loop-i.invariant.low on c.loop-i.invariant.rows
+          (c.in_ok-push.ensures ∙ ap (λ xs. c.loop-i.self ++ xs) run);
     }

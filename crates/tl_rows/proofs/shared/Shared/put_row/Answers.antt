@@ -14,7 +14,8 @@ put_in_run-requires-clause-place c =
     let b = c.begin-from.result in
     let d = c.index_mut.result.now in
     let k = c.args.k in
-    let f = run-found rs c.as_slice.result.now c.as_slice-2.result.now i b k d c.as_slice.ensures.value c.as_slice-2.ensures.value c.self.invariant c.find_run-i.ensures.bound c.find_run-i.ensures.from c.find_run-i.ensures.to c.begin-from.ensures.place in
+    let f = run-found rs c.as_slice.result.now c.as_slice-2.result.now i b k d c.as_slice.ensures.value c.as_slice-2.ensures.value
+    c.self.invariant c.find_run-i.ensures.bound c.find_run-i.ensures.from c.find_run-i.ensures.to c.begin-from.ensures.place in
     let from = f.from in
     let to = f.to in
     let here = c.index_mut.ensures.value in
@@ -27,7 +28,8 @@ invariant_of-self c =
     let b = c.begin-from.result in
     let d = c.index_mut.result.now in
     let k = c.args.k in
-    let f = run-found rs c.as_slice.result.now c.as_slice-2.result.now i b k d c.as_slice.ensures.value c.as_slice-2.ensures.value c.self.invariant c.find_run-i.ensures.bound c.find_run-i.ensures.from c.find_run-i.ensures.to c.begin-from.ensures.place in
+    let f = run-found rs c.as_slice.result.now c.as_slice-2.result.now i b k d c.as_slice.ensures.value c.as_slice-2.ensures.value
+    c.self.invariant c.find_run-i.ensures.bound c.find_run-i.ensures.from c.find_run-i.ensures.to c.begin-from.ensures.place in
     let from = f.from in
     let to = f.to in
     let here = c.index_mut.ensures.value in
@@ -43,7 +45,8 @@ returns-in_err-put_in_run-clause-same c =
     let b = c.begin-from.result in
     let d = c.index_mut.result.now in
     let k = c.args.k in
-    let f = run-found rs c.as_slice.result.now c.as_slice-2.result.now i b k d c.as_slice.ensures.value c.as_slice-2.ensures.value c.self.invariant c.find_run-i.ensures.bound c.find_run-i.ensures.from c.find_run-i.ensures.to c.begin-from.ensures.place in
+    let f = run-found rs c.as_slice.result.now c.as_slice-2.result.now i b k d c.as_slice.ensures.value c.as_slice-2.ensures.value
+    c.self.invariant c.find_run-i.ensures.bound c.find_run-i.ensures.from c.find_run-i.ensures.to c.begin-from.ensures.place in
     let from = f.from in
     let to = f.to in
     let here = c.index_mut.ensures.value in
@@ -57,7 +60,8 @@ invariant_of-self-2 c =
     let b = c.begin-from.result in
     let d = c.index_mut.result.now in
     let k = c.args.k in
-    let f = run-found rs c.as_slice.result.now c.as_slice-2.result.now i b k d c.as_slice.ensures.value c.as_slice-2.ensures.value c.self.invariant c.find_run-i.ensures.bound c.find_run-i.ensures.from c.find_run-i.ensures.to c.begin-from.ensures.place in
+    let f = run-found rs c.as_slice.result.now c.as_slice-2.result.now i b k d c.as_slice.ensures.value c.as_slice-2.ensures.value
+    c.self.invariant c.find_run-i.ensures.bound c.find_run-i.ensures.from c.find_run-i.ensures.to c.begin-from.ensures.place in
     let from = f.from in
     let to = f.to in
     let here = c.index_mut.ensures.value in
@@ -66,7 +70,12 @@ invariant_of-self-2 c =
     let row = c.args.row.now in
     let is = c.in_ok-put_in_run.ensures.all ∙ ap (λ (u : Run). insert u.rows.value (k - b) row) here in
     let q : k - b ≤ length (get_or rs i d).rows.value = omega (arith, from, to) in
-    let small : 0 + length (rows_in rs) + 1 < 2 ^ 63 = omega (arith, c.if-len-ge-COUNTED.false, c.len-else-len-ge-MOST.ensures.len, ap length c.self.view_is) in
+    let small : 0 + length (rows_in rs) + 1 < 2 ^ 63 = omega (
+      arith,
+      c.if-len-ge-COUNTED.false,
+      c.len-else-len-ge-MOST.ensures.len,
+      ap length c.self.view_is,
+    ) in
     subst (AreCounted 0) (sym c.raise_ends.ensures) (put-counted r d 0 rs i (k - b) row c.self.invariant f.below end is q small)
 
 pub returns-clause-all : goal.returns-clause-all
@@ -76,7 +85,8 @@ returns-clause-all c _ =
     let b = c.begin-from.result in
     let d = c.index_mut.result.now in
     let k = c.args.k in
-    let f = run-found rs c.as_slice.result.now c.as_slice-2.result.now i b k d c.as_slice.ensures.value c.as_slice-2.ensures.value c.self.invariant c.find_run-i.ensures.bound c.find_run-i.ensures.from c.find_run-i.ensures.to c.begin-from.ensures.place in
+    let f = run-found rs c.as_slice.result.now c.as_slice-2.result.now i b k d c.as_slice.ensures.value c.as_slice-2.ensures.value
+    c.self.invariant c.find_run-i.ensures.bound c.find_run-i.ensures.from c.find_run-i.ensures.to c.begin-from.ensures.place in
     let from = f.from in
     let to = f.to in
     let here = c.index_mut.ensures.value in
@@ -85,4 +95,5 @@ returns-clause-all c _ =
     let is = c.in_ok-put_in_run.ensures.all ∙ ap (λ (u : Run). insert u.rows.value (k - b) row) here in
     let q : k - b ≤ length (get_or rs i d).rows.value = omega (arith, from, to) in
     let at : k ≡ run_place rs i + (k - b) = let place = f.place in omega (arith, place, from) in
-    ap rows_in c.raise_ends.ensures ∙ (raised-rows (set rs i r) i ∙ (put-rows r d rs i (k - b) k row f.below is q at ∙ ap (λ xs. insert xs k row) c.self.view_is))
+    ap rows_in c.raise_ends.ensures ∙ (raised-rows (set rs i r) i ∙ (put-rows r d rs i (k - b) k row f.below is q at ∙
+    ap (λ xs. insert xs k row) c.self.view_is))

@@ -15,4 +15,6 @@ returns c d =
     let n = count c.self.inside.args.value c.self.inside.values.items c.self.invariant.0 in
     let v : length (place_rows c.self.inside.args.value c.self.inside.values.items) ≡ length c.args.self.now = ap length c.self.view_is in
     let p : c.args.k < length c.self.inside.values.items = omega (arith, n, v, c.requires) in
-    c.row.ensures ∙ (ap (λ xs. get_or xs c.args.k c.row.result.now) c.deref.ensures ∙ (args-at c.self.inside.args.value c.self.inside.values.items c.args.k c.row.result.now d c.self.invariant.0 p ∙ ap (λ rs. (get_or rs c.args.k d).args) c.self.view_is))
+    c.row.ensures ∙ (ap (λ xs. get_or xs c.args.k c.row.result.now) c.deref.ensures ∙
+    (args-at c.self.inside.args.value c.self.inside.values.items c.args.k c.row.result.now d c.self.invariant.0 p ∙
+    ap (λ rs. (get_or rs c.args.k d).args) c.self.view_is))

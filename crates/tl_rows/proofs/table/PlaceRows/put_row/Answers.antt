@@ -38,11 +38,16 @@ invariant_of-self-in-Ok c =
     let x = c.args.value in
     let list : c.put_args.new.args.value ≡ insert us k row = c.in-Ok.ensures.all in
     let made : c.insert.new.self.items ≡ insert vs k x = c.in_ok-insert.ensures.items in
-    let rows : place_rows c.put_args.new.args.value c.insert.new.self.items ≡ insert (place_rows us vs) k (record { args = row; value = x }) = (λ i. place_rows (list i) (made i)) ∙ insert-at us vs k row x same p in
+    let rows : place_rows c.put_args.new.args.value c.insert.new.self.items ≡
+    insert (place_rows us vs) k (record { args = row; value = x }) = (λ i. place_rows (list i) (made i)) ∙
+    insert-at us vs k row x same p in
     let l1 = length-insert us k row (omega (arith, same, p)) in
     let l2 = length-insert vs k x p in (
-      ap length list ∙ ((let e : length (insert us k row) ≡ length (insert vs k x) = omega (arith, l1, l2, same) in e) ∙ sym (ap length made)),
-      code-added c.self.inside.code c.code_of_place.result k (place_rows us vs) (place_rows c.put_args.new.args.value c.insert.new.self.items) (record { args = row; value = x }) c.self.invariant.1 c.code_of_place.ensures rows,
+      ap length list ∙ ((let e : length (insert us k row) ≡ length (insert vs k x) = omega (arith, l1, l2, same) in e) ∙
+          sym (ap length made)),
+      code-added c.self.inside.code c.code_of_place.result k (place_rows us vs)
+          (place_rows c.put_args.new.args.value c.insert.new.self.items)
+          (record { args = row; value = x }) c.self.invariant.1 c.code_of_place.ensures rows,
     )
 
 pub remove-requires : goal.remove-requires
@@ -72,5 +77,7 @@ returns-in-Ok c =
     let x = c.args.value in
     let list : c.put_args.new.args.value ≡ insert us k row = c.in-Ok.ensures.all in
     let made : c.insert.new.self.items ≡ insert vs k x = c.in_ok-insert.ensures.items in
-    let rows : place_rows c.put_args.new.args.value c.insert.new.self.items ≡ insert (place_rows us vs) k (record { args = row; value = x }) = (λ i. place_rows (list i) (made i)) ∙ insert-at us vs k row x same p in
+    let rows : place_rows c.put_args.new.args.value c.insert.new.self.items ≡
+    insert (place_rows us vs) k (record { args = row; value = x }) = (λ i. place_rows (list i) (made i)) ∙
+    insert-at us vs k row x same p in
     rows ∙ ap (λ rs. insert rs k (record { args = row; value = x })) c.self.view_is

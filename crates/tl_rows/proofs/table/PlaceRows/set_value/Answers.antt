@@ -53,11 +53,14 @@ invariant_of-self c =
     let p : k < length vs = omega (arith, n, v, c.requires) in
     let d : PlaceRow = record { args = []; value = Int (pos 0) } in
     let args = c.row-args.result.now in
-    let a : args ≡ (get_or (place_rows us vs) k d).args = c.row-args.ensures ∙ (ap (λ xs. get_or xs k args) c.deref.ensures ∙ args-at us vs k args d same p) in
+    let a : args ≡ (get_or (place_rows us vs) k d).args = c.row-args.ensures ∙
+    (ap (λ xs. get_or xs k args) c.deref.ensures ∙ args-at us vs k args d same p) in
     let o : c.index.result.now ≡ (get_or (place_rows us vs) k d).value = c.index.ensures ∙ value-at us vs k c.index.result.now d same p in
     let fits : c.code_of_place.result ≤ 2 ^ 64 = first_of (omega arith, search rules) in
     let q : k < length (place_rows us vs) = omega (arith, n, p) in
-    let code = code-set c.self.inside.code c.code_of_place.result c.code_of_place-2.result k (place_rows us vs) args c.index.result.now c.args.value d c.self.invariant.1 c.code_of_place.ensures c.code_of_place-2.ensures fits a o q in
+    let code = code-set c.self.inside.code c.code_of_place.result c.code_of_place-2.result k
+    (place_rows us vs) args c.index.result.now c.args.value d c.self.invariant.1 c.code_of_place.ensures c.code_of_place-2.ensures fits
+    a o q in
     (same ∙ sym (length-set vs k c.args.value), code ∙ ap places_code (sym (set-at us vs k c.args.value same p)))
 
 pub returns : goal.returns

@@ -41,12 +41,16 @@ invariant_of-result c =
     let xs = c.in_ok-new.field-0.value in
     let ws = c.in_ok-values_with.field-0.items in
     let list : xs ≡ insert us k row = c.in_ok-new.ensures.ok ∙ (c.in_ok-list.ensures ∙ ap (λ zs. insert zs k row) c.deref.ensures) in
-    let made : ws ≡ insert vs k x = c.in_ok-values_with.ensures ∙ (ap (λ zs. take k zs ++ (x ∷ [] ++ drop k zs)) c.as_slice.ensures.value ∙ with-is vs k x p) in
-    let rows : place_rows xs ws ≡ insert (place_rows us vs) k (record { args = row; value = x }) = (λ i. place_rows (list i) (made i)) ∙ insert-at us vs k row x same p in
+    let made : ws ≡ insert vs k x = c.in_ok-values_with.ensures ∙ (ap (λ zs. take k zs ++ (x ∷ [] ++ drop k zs)) c.as_slice.ensures.value ∙
+    with-is vs k x p) in
+    let rows : place_rows xs ws ≡ insert (place_rows us vs) k (record { args = row; value = x }) = (λ i. place_rows (list i) (made i)) ∙
+    insert-at us vs k row x same p in
     let l1 = length-insert us k row (omega (arith, same, p)) in
     let l2 = length-insert vs k x p in (
-      ap length list ∙ ((let e : length (insert us k row) ≡ length (insert vs k x) = omega (arith, l1, l2, same) in e) ∙ sym (ap length made)),
-      code-added c.self.inside.code c.code_of_place.result k (place_rows us vs) (place_rows xs ws) (record { args = row; value = x }) c.self.invariant.1 c.code_of_place.ensures rows,
+      ap length list ∙ ((let e : length (insert us k row) ≡ length (insert vs k x) = omega (arith, l1, l2, same) in e) ∙
+          sym (ap length made)),
+      code-added c.self.inside.code c.code_of_place.result k (place_rows us vs) (place_rows xs ws)
+          (record { args = row; value = x }) c.self.invariant.1 c.code_of_place.ensures rows,
     )
 
 pub returns : goal.returns
@@ -63,6 +67,8 @@ returns c =
     let xs = c.in_ok-new.field-0.value in
     let ws = c.in_ok-values_with.field-0.items in
     let list : xs ≡ insert us k row = c.in_ok-new.ensures.ok ∙ (c.in_ok-list.ensures ∙ ap (λ zs. insert zs k row) c.deref.ensures) in
-    let made : ws ≡ insert vs k x = c.in_ok-values_with.ensures ∙ (ap (λ zs. take k zs ++ (x ∷ [] ++ drop k zs)) c.as_slice.ensures.value ∙ with-is vs k x p) in
-    let rows : place_rows xs ws ≡ insert (place_rows us vs) k (record { args = row; value = x }) = (λ i. place_rows (list i) (made i)) ∙ insert-at us vs k row x same p in
+    let made : ws ≡ insert vs k x = c.in_ok-values_with.ensures ∙ (ap (λ zs. take k zs ++ (x ∷ [] ++ drop k zs)) c.as_slice.ensures.value ∙
+    with-is vs k x p) in
+    let rows : place_rows xs ws ≡ insert (place_rows us vs) k (record { args = row; value = x }) = (λ i. place_rows (list i) (made i)) ∙
+    insert-at us vs k row x same p in
     rows ∙ ap (λ rs. insert rs k (record { args = row; value = x })) c.self.view_is

@@ -54,15 +54,20 @@ invariant_of-result c =
     let p : k < length vs = omega (arith, n, v, c.requires) in
     let d : PlaceRow = record { args = []; value = Int (pos 0) } in
     let args = c.row-args.result.now in
-    let a : args ≡ (get_or (place_rows us vs) k d).args = c.row-args.ensures ∙ (ap (λ xs. get_or xs k args) c.deref.ensures ∙ args-at us vs k args d same p) in
+    let a : args ≡ (get_or (place_rows us vs) k d).args = c.row-args.ensures ∙
+    (ap (λ xs. get_or xs k args) c.deref.ensures ∙ args-at us vs k args d same p) in
     let o : c.index.result.now ≡ (get_or (place_rows us vs) k d).value = c.index.ensures ∙ value-at us vs k c.index.result.now d same p in
     let fits : c.code_of_place.result ≤ 2 ^ 64 = first_of (omega arith, search rules) in
     let q : k < length (place_rows us vs) = omega (arith, n, p) in
-    let code = code-set c.self.inside.code c.code_of_place.result c.code_of_place-2.result k (place_rows us vs) args c.index.result.now c.args.value d c.self.invariant.1 c.code_of_place.ensures c.code_of_place-2.ensures fits a o q in
+    let code = code-set c.self.inside.code c.code_of_place.result c.code_of_place-2.result k
+    (place_rows us vs) args c.index.result.now c.args.value d c.self.invariant.1 c.code_of_place.ensures c.code_of_place-2.ensures fits
+    a o q in
     let ws = c.in_ok-values_set.field-0.items in
-    let made : ws ≡ slice_set vs k c.args.value = c.in_ok-values_set.ensures ∙ ap (λ xs. slice_set xs k c.args.value) c.as_slice.ensures.value in
+    let made : ws ≡ slice_set vs k c.args.value = c.in_ok-values_set.ensures ∙
+    ap (λ xs. slice_set xs k c.args.value) c.as_slice.ensures.value in
     let kept : c.in_ok-clone.field-0.value ≡ us = c.in_ok-clone.ensures.cases in
-    let rows : place_rows c.in_ok-clone.field-0.value ws ≡ place_set (place_rows us vs) k c.args.value = (λ i. place_rows (kept i) (made i)) ∙ set-at us vs k c.args.value same p in
+    let rows : place_rows c.in_ok-clone.field-0.value ws ≡ place_set (place_rows us vs) k c.args.value =
+    (λ i. place_rows (kept i) (made i)) ∙ set-at us vs k c.args.value same p in
     (ap length kept ∙ (same ∙ (sym (length-set vs k c.args.value) ∙ sym (ap length made))), code ∙ ap places_code (sym rows))
 
 pub returns : goal.returns
@@ -75,7 +80,9 @@ returns c =
     let v : length (place_rows us vs) ≡ length c.args.self.now = ap length c.self.view_is in
     let p : k < length vs = omega (arith, n, v, c.requires) in
     let ws = c.in_ok-values_set.field-0.items in
-    let made : ws ≡ slice_set vs k c.args.value = c.in_ok-values_set.ensures ∙ ap (λ xs. slice_set xs k c.args.value) c.as_slice.ensures.value in
+    let made : ws ≡ slice_set vs k c.args.value = c.in_ok-values_set.ensures ∙
+    ap (λ xs. slice_set xs k c.args.value) c.as_slice.ensures.value in
     let kept : c.in_ok-clone.field-0.value ≡ us = c.in_ok-clone.ensures.cases in
-    let rows : place_rows c.in_ok-clone.field-0.value ws ≡ place_set (place_rows us vs) k c.args.value = (λ i. place_rows (kept i) (made i)) ∙ set-at us vs k c.args.value same p in
+    let rows : place_rows c.in_ok-clone.field-0.value ws ≡ place_set (place_rows us vs) k c.args.value =
+    (λ i. place_rows (kept i) (made i)) ∙ set-at us vs k c.args.value same p in
     rows ∙ ap (λ rs. place_set rs k c.args.value) c.self.view_is

@@ -18,17 +18,24 @@ args-differ : (us ys : List (List Value)) → rows_eq us ys ≡ false → us ≡
 args-differ us ys e is = true≢false (sym ((rows-tell us ys).1 is) ∙ e)
 
 pub returns-then-self-other : goal.returns-then-self-other
-returns-then-self-other c = differ c.args.self.now c.args.other.now (λ is. c.if-self-other.true (c.self.invariant.1 ∙ (ap places_code (c.self.view_is ∙ (is ∙ sym c.other.view_is)) ∙ sym c.other.invariant.1)))
+returns-then-self-other c = differ c.args.self.now c.args.other.now (λ is.
+    c.if-self-other.true (c.self.invariant.1 ∙ (ap places_code (c.self.view_is ∙ (is ∙ sym c.other.view_is)) ∙ sym c.other.invariant.1)))
 
 pub returns-then-ne : goal.returns-then-ne
 returns-then-ne c =
-    let other : rows_eq c.self.inside.args.value c.other.inside.args.value ≡ false = (λ i. rows_eq (sym c.deref.ensures i) (sym c.deref-2.ensures i)) ∙ not-true (rows_eq c.deref.result.now c.deref-2.result.now) (sym c.ne.ensures ∙ c.if-ne.true) in
+    let other : rows_eq c.self.inside.args.value c.other.inside.args.value ≡ false =
+    (λ i. rows_eq (sym c.deref.ensures i) (sym c.deref-2.ensures i)) ∙
+    not-true (rows_eq c.deref.result.now c.deref-2.result.now) (sym c.ne.ensures ∙ c.if-ne.true) in
     differ c.args.self.now c.args.other.now (λ is. args-differ c.self.inside.args.value c.other.inside.args.value other
     (all-args c.self.inside.args.value c.self.inside.values.items c.self.invariant.0
-    ∙ (ap (map (λ (r : PlaceRow). r.args)) (c.self.view_is ∙ (is ∙ sym c.other.view_is)) ∙ sym (all-args c.other.inside.args.value c.other.inside.values.items c.other.invariant.0))))
+    ∙ (ap (map (λ (r : PlaceRow). r.args)) (c.self.view_is ∙ (is ∙ sym c.other.view_is)) ∙
+    sym (all-args c.other.inside.args.value c.other.inside.values.items c.other.invariant.0))))
 
 pub returns : goal.returns
 returns c =
-    let same : rows_eq c.self.inside.args.value c.other.inside.args.value ≡ true = (λ i. rows_eq (sym c.deref.ensures i) (sym c.deref-2.ensures i)) ∙ not-false (rows_eq c.deref.result.now c.deref-2.result.now) (sym c.ne.ensures ∙ c.if-ne.false) in
-    same-values c.self.inside.args.value c.other.inside.args.value c.self.inside.values.items c.other.inside.values.items c.args.self.now c.args.other.now c.eq.result c.self.invariant.0 c.other.invariant.0 c.self.view_is c.other.view_is
+    let same : rows_eq c.self.inside.args.value c.other.inside.args.value ≡ true =
+    (λ i. rows_eq (sym c.deref.ensures i) (sym c.deref-2.ensures i)) ∙
+    not-false (rows_eq c.deref.result.now c.deref-2.result.now) (sym c.ne.ensures ∙ c.if-ne.false) in
+    same-values c.self.inside.args.value c.other.inside.args.value c.self.inside.values.items c.other.inside.values.items c.args.self.now
+    c.args.other.now c.eq.result c.self.invariant.0 c.other.invariant.0 c.self.view_is c.other.view_is
     ((rows-tell c.self.inside.args.value c.other.inside.args.value).0 same) c.eq.ensures

@@ -30,21 +30,25 @@ pub change_facts-requires : goal.change_facts-requires
 change_facts-requires c = subst InOrder (sym (same-facts _ _ _ c.in_ok-facts.ensures.same c.as_slice.ensures.value)) c.self.invariant.0.0
 
 pub change_places-requires : goal.change_places-requires
-change_places-requires c = subst InOrder (sym (same-places _ _ _ c.in_ok-places.ensures.same c.as_slice-2.ensures.value)) c.self.invariant.0.1
+change_places-requires c = subst InOrder (sym (same-places _ _ _ c.in_ok-places.ensures.same c.as_slice-2.ensures.value))
+    c.self.invariant.0.1
 
 pub returns-clause-facts : goal.returns-clause-facts
 returns-clause-facts c =
     c.whole.ensures.facts
     ∙ (c.in_ok-change_facts.ensures.facts
-    ∙ ap (λ s. with_all (without_all s (map fact_key c.args.dels.now)) (map fact_key c.args.adds.now)) (ap set_of (same-facts _ _ _ c.in_ok-facts.ensures.same c.as_slice.ensures.value) ∙ ap (λ (w : World). w.facts) c.self.view_is))
+    ∙ ap (λ s. with_all (without_all s (map fact_key c.args.dels.now)) (map fact_key c.args.adds.now))
+    (ap set_of (same-facts _ _ _ c.in_ok-facts.ensures.same c.as_slice.ensures.value) ∙ ap (λ (w : World). w.facts) c.self.view_is))
 
 pub returns-clause-places : goal.returns-clause-places
 returns-clause-places c =
     c.whole.ensures.places
     ∙ (c.in_ok-change_places.ensures.places
-    ∙ ap (λ m. overwritten m (map place_entry c.args.sets.now)) (ap map_of (same-places _ _ _ c.in_ok-places.ensures.same c.as_slice-2.ensures.value) ∙ ap (λ (w : World). w.places) c.self.view_is))
+    ∙ ap (λ m. overwritten m (map place_entry c.args.sets.now)) (ap map_of
+    (same-places _ _ _ c.in_ok-places.ensures.same c.as_slice-2.ensures.value) ∙ ap (λ (w : World). w.places) c.self.view_is))
 
 pub returns-clause-named : goal.returns-clause-named
 returns-clause-named c = λ n h a s.
-    world-changed n _ _ (map fact_key c.args.dels.now) (map fact_key c.args.adds.now) (map place_entry c.args.sets.now) (returns-clause-facts c) (returns-clause-places c) h
+    world-changed n _ _ (map fact_key c.args.dels.now) (map fact_key c.args.adds.now) (map place_entry c.args.sets.now)
+    (returns-clause-facts c) (returns-clause-places c) h
     (keys-named n c.args.adds.now a) (entries-named n c.args.sets.now s)

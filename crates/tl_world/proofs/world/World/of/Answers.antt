@@ -18,7 +18,8 @@ named facts places (Ok w) h = λ n f p. subst (WorldIsNamed n) (sym h) (world_of
 named facts places (Err e) h = tt
 
 pub returns-clause-same : goal.returns-clause-same
-returns-clause-same c = made-of c.args.facts.now c.args.places.now c.new.result c.changed-2.result c.new.ensures c.changed-2.ensures.facts c.changed-2.ensures.places
+returns-clause-same c = made-of c.args.facts.now c.args.places.now c.new.result c.changed-2.result c.new.ensures c.changed-2.ensures.facts
+    c.changed-2.ensures.places
 
 pub returns-clause-named : goal.returns-clause-named
 returns-clause-named c = named c.args.facts.now c.args.places.now c.changed-2.result (returns-clause-same c)

@@ -16,10 +16,14 @@ returns-in-Some c =
     let p = c.args.pattern.now in
     let parts = parts_of p in
     let after = match_in_place c.args.begun c.args.tuple.now in
-    least-same p.free (match_in_place c.put_next_in_table.result c.put_next_in_table.new.tuple) (λ t. fits_some parts c.in-Some.rows.now t && above after p.free t) (λ t. is_true_of c.args.self.now false p.name (filled parts t) && above after p.free t)
-    (λ t size. ap (λ b. b && above after p.free t) (fact-truth c.args.self.now p.name c.in-Some.rows.now c.in-Some.ensures.facts parts t p.free (λ n o. (c.requires.pattern.each n).0 ((occurs-among n parts).1 o)) size))
+    least-same p.free (match_in_place c.put_next_in_table.result c.put_next_in_table.new.tuple)
+    (λ t. fits_some parts c.in-Some.rows.now t && above after p.free t)
+    (λ t. is_true_of c.args.self.now false p.name (filled parts t) && above after p.free t)
+    (λ t size. ap (λ b. b && above after p.free t) (fact-truth c.args.self.now p.name c.in-Some.rows.now c.in-Some.ensures.facts parts t
+    p.free (λ n o. (c.requires.pattern.each n).0 ((occurs-among n parts).1 o)) size))
     c.put_next_in_table.ensures
 
 pub returns-in-None : goal.returns-in-None
 unfolding IsLeast
-returns-in-None c t size = ap (λ b. b && above (match_in_place c.args.begun c.args.tuple.now) c.args.pattern.now.free t) (c.in-None.ensures.none (filled (parts_of c.args.pattern.now) t))
+returns-in-None c t size = ap (λ b. b && above (match_in_place c.args.begun c.args.tuple.now) c.args.pattern.now.free t)
+    (c.in-None.ensures.none (filled (parts_of c.args.pattern.now) t))

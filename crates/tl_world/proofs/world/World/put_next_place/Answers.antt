@@ -19,8 +19,11 @@ returns-in-Some c =
     let p = c.args.pattern.now in
     let parts = parts_of p in
     let after = match_in_place c.args.begun c.args.tuple.now in
-    least-same p.free (match_in_place c.put_next_in_places.result c.put_next_in_places.new.tuple) (λ t. fits_some parts (map whole_row c.in-Some.rows.now) t && above after p.free t) (λ t. is_true_of c.args.self.now true p.name (filled parts t) && above after p.free t)
-    (λ t size. ap (λ b. b && above after p.free t) (place-truth c.args.self.now p.name c.in-Some.rows.now c.in-Some.ensures.places parts t p.free (λ n o. (c.requires.pattern.each n).0 ((occurs-among n parts).1 o)) (search rules) size))
+    least-same p.free (match_in_place c.put_next_in_places.result c.put_next_in_places.new.tuple)
+    (λ t. fits_some parts (map whole_row c.in-Some.rows.now) t && above after p.free t)
+    (λ t. is_true_of c.args.self.now true p.name (filled parts t) && above after p.free t)
+    (λ t size. ap (λ b. b && above after p.free t) (place-truth c.args.self.now p.name c.in-Some.rows.now c.in-Some.ensures.places parts t
+    p.free (λ n o. (c.requires.pattern.each n).0 ((occurs-among n parts).1 o)) (search rules) size))
     c.put_next_in_places.ensures
 
 pub returns-in-None : goal.returns-in-None
@@ -28,4 +31,5 @@ unfolding IsLeast
 returns-in-None c t size =
     let p = c.args.pattern.now in
     let xs = filled (parts_of p) t in
-    ap (λ o. same_value o (slice_get xs (length xs - 1)) && above (match_in_place c.args.begun c.args.tuple.now) p.free t) (c.in-None.ensures.none (take (length xs - 1) xs))
+    ap (λ o. same_value o (slice_get xs (length xs - 1)) && above (match_in_place c.args.begun c.args.tuple.now) p.free t)
+    (c.in-None.ensures.none (take (length xs - 1) xs))
