@@ -4,8 +4,8 @@ use Rattle.std.proofs.lemmas.Bool.{eq-eqb}
 use Rattle.std.specs.Cmp.{nat_cmp_is}
 use Rattle.std.specs.List.{list_all}
 use Rattle.std.specs.Ordering.{nat_cmp, ordering_then}
-use Rattle.tl_action.specs.declared.fault.ActFault.{ActFault}
-use Rattle.tl_action.specs.declared.fault.ActFault.TheVariants as fault
+use Rattle.tl_eval.specs.declared.fault.EvalFault.{EvalFault}
+use Rattle.tl_eval.specs.declared.fault.EvalFault.TheVariants as fault
 use Rattle.tl_action.specs.Actions.{action_of, AreActions, HasOperator, IsCausedBySome}
 use Rattle.tl_action.specs.Join.{AgreeOnSeen, row_assignment, IsFound, IsRowFault}
 use Rattle.tl_action.specs.Prepared.{is_prepared, instances_of, looked_prepared}
@@ -66,7 +66,7 @@ module _ (p : PlainProblem) (w : World) (o : PlainOperator) (op : ℕ) (there : 
         prepared = second.1;
       }
 
-  pub row-cause : (e : Assignment) (x : ActFault) → IsRowFault p w o [] o.bounds e x → IsCausedBySome p w x
+  pub row-cause : (e : Assignment) (x : EvalFault) → IsRowFault p w o [] o.bounds e x → IsCausedBySome p w x
   row-cause e (fault.Range note) h =
       (action_of op h.0, subst (λ (ls : List Operation). Tells ls note) (sym (looked-is p w (action_of op h.0) o there h.1.arity ∙ ap (λ (b : Bool). cond b (looked_prepared p w (row_assignment o h.0) o) []) ((bounds-iff h.0).0 h.1.bounds))) h.2)
   row-cause e fault.NoMemory h = tt

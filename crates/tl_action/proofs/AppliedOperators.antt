@@ -4,10 +4,10 @@ use Rattle.std.proofs.lemmas.Bool.{eq-eqb}
 use Rattle.std.proofs.lemmas.List.{length-map}
 use Rattle.std.specs.List.{list_all}
 use Rattle.tl_action.specs.declared.changes.Changes.{Changes}
-use Rattle.tl_action.specs.declared.fault.ActFault.{ActFault}
+use Rattle.tl_eval.specs.declared.fault.EvalFault.{EvalFault}
 use Rattle.tl_action.specs.Actions.{HasOperator}
 use Rattle.tl_action.specs.Agreement.{Agree}
-use Rattle.tl_action.specs.Answers.{IsCausedBy}
+use Rattle.tl_eval.specs.Faults.{IsCausedBy}
 use Rattle.tl_action.specs.ChangedWorlds.{AreChangesOf, world_after}
 use Rattle.tl_action.specs.Collected.{no_changes, HasMore, Collects}
 use Rattle.tl_action.specs.Prepared.{instances_of, is_prepared, looked_prepared, CollectsWhole, Prepares}
@@ -91,7 +91,7 @@ both-true : (a b : Bool) → a ≡ true → b ≡ true → (a && b) ≡ true
 both-true true b p q = q
 both-true false b p q = p
 
-pub prepares-collected : (p : PlainProblem) (w : World) (e : Assignment) (o : PlainOperator) (r : Result (Option Changes) ActFault) → true ≡ state_true (situation_of p w) e o.pre → CollectsWhole p w e o r → Prepares p w e o r
+pub prepares-collected : (p : PlainProblem) (w : World) (e : Assignment) (o : PlainOperator) (r : Result (Option Changes) EvalFault) → true ≡ state_true (situation_of p w) e o.pre → CollectsWhole p w e o r → Prepares p w e o r
 prepares-collected p w e o (Ok (Some x)) t h = (both-true _ _ (sym t) (both-true _ _ h.1.defined h.0), h.1)
 prepares-collected p w e o (Ok None) t h = ap (λ (b : Bool). b && (list_all is_defined (instances_of p w e o) && no_clash (flat_map given (instances_of p w e o)))) (sym t) ∙ h
 prepares-collected p w e o (Err x) t h =
@@ -163,20 +163,20 @@ module _ (problem : Problem) (w : World) (a : Action) (o : Operator) (at : Opera
       let is : next ≡ changed w (instances_of meaning w d (plain_operator o)) = λ i. record { facts = facts i; places = places i } in
       ap (λ (v : World). Some v) is ∙ sym (step-some h k.0)
 
-  pub step-caused : list_all (bound_true (situation_of meaning w) d) o.bounds ≡ true → (x : ActFault) → IsCausedBy (looked_prepared meaning w d (plain_operator o)) x → IsCausedBy (looked_by_action meaning w a) x
+  pub step-caused : list_all (bound_true (situation_of meaning w) d) o.bounds ≡ true → (x : EvalFault) → IsCausedBy (looked_prepared meaning w d (plain_operator o)) x → IsCausedBy (looked_by_action meaning w a) x
   step-caused h x k =
       subst (λ (ls : List Operation). IsCausedBy ls x)
       (same.looked ∙ sym (looked-is meaning w a (plain_operator o) at.there at.arity ∙ ap (λ (b : Bool). cond b (looked_prepared meaning w values (plain_operator o)) []) (sym same.bounds ∙ h))) k
 
   -- ---- whatever was prepared
 
-  pub step-answered : list_all (bound_true (situation_of meaning w) d) o.bounds ≡ true → (r : Result (Option Changes) ActFault) → Prepares meaning w d (plain_operator o) r → IfOk r (AreChangesOf meaning w a)
+  pub step-answered : list_all (bound_true (situation_of meaning w) d) o.bounds ≡ true → (r : Result (Option Changes) EvalFault) → Prepares meaning w d (plain_operator o) r → IfOk r (AreChangesOf meaning w a)
   unfolding world_after
   step-answered h (Ok (Some x)) k = step-made h x k (world_after w x) refl refl
   step-answered h (Ok None) k = sym (step-unprepared k)
   step-answered h (Err x) k = tt
 
-  pub answer-caused : list_all (bound_true (situation_of meaning w) d) o.bounds ≡ true → (r : Result (Option Changes) ActFault) → Prepares meaning w d (plain_operator o) r → IfErr r (IsCausedBy (looked_by_action meaning w a))
+  pub answer-caused : list_all (bound_true (situation_of meaning w) d) o.bounds ≡ true → (r : Result (Option Changes) EvalFault) → Prepares meaning w d (plain_operator o) r → IfErr r (IsCausedBy (looked_by_action meaning w a))
   answer-caused h (Ok x) k = tt
   answer-caused h (Err x) k = step-caused h x k
 
@@ -207,7 +207,7 @@ module _ (problem : Problem) (w : World) (a : Action) (o : Operator) (at : Opera
       → next.facts ≡ with_all (without_all w.facts (map fact_key x.dels)) (map fact_key x.adds) → next.places ≡ overwritten w.places (map place_entry x.sets) → Some next ≡ step meaning w a
   step-known h ls x b k next f s = let tests = tests-passed h in step-made tests.0 x (tests.1, all-collected h ls x b k) next f s
 
-  pub effects-caused : is_some (step meaning w a) ≡ true → (x : ActFault) → IsCausedBy (looked_in_effects (looks_of meaning w) (situation_of meaning w) d (plain_operator o).effects) x → IsCausedBy (looked_by_action meaning w a) x
+  pub effects-caused : is_some (step meaning w a) ≡ true → (x : EvalFault) → IsCausedBy (looked_in_effects (looks_of meaning w) (situation_of meaning w) d (plain_operator o).effects) x → IsCausedBy (looked_by_action meaning w a) x
   effects-caused h x k =
       let tests = tests-passed h in
       let pre = both-of (state_true (situation_of meaning w) d (plain_operator o).pre) _ tests.1 in

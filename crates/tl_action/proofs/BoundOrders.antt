@@ -2,8 +2,8 @@
 use Rattle.std.proofs.Common.{◌≡◌, ◌↔◌, ◌<◌, ◌≤◌, ◌-◌, ℕ, zero, suc, List, [], ◌∷◌, length, get_or, Bool, true, false, true≢false, ◌||◌, IsTrue, inl, inr, refl, sym, ap, ◌∙◌, arith}
 use Rattle.std.specs.List.{list_any}
 use Rattle.tl_action.specs.declared.arranged.Arranged.{Arranged}
-use Rattle.tl_action.specs.declared.fault.ActFault.{ActFault}
-use Rattle.tl_action.specs.declared.fault.ActFault.TheVariants as fault
+use Rattle.tl_eval.specs.declared.fault.EvalFault.{EvalFault}
+use Rattle.tl_eval.specs.declared.fault.EvalFault.TheVariants as fault
 use Rattle.tl_action.specs.Join.{arranged, bound_count, behind_first, moved_first, HaveSame, with_bounds, row_assignment, IsCompletion, IsRowFault}
 use Rattle.tl_action.specs.RowLists.{AreRowsOf}
 use Rattle.tl_syntax.specs.declared.bound.Bound.{Bound}
@@ -187,6 +187,6 @@ module _ (p : PlainProblem) (w : World) (o : Operator) (bs : List Bound) (same :
     order = h.order;
   }
 
-  pub fault-with : (x : ActFault) → IsRowFault p w (plain_operator (with_bounds o bs)) [] bs e x → IsRowFault p w (plain_operator o) [] o.bounds e x
+  pub fault-with : (x : EvalFault) → IsRowFault p w (plain_operator (with_bounds o bs)) [] bs e x → IsRowFault p w (plain_operator o) [] o.bounds e x
   fault-with (fault.Range note) h = (h.0, back h.0 h.1, h.2)
   fault-with fault.NoMemory h = tt

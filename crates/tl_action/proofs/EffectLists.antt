@@ -2,8 +2,8 @@
 use Rattle.std.proofs.Common.{◌≡◌, ◌<◌, ◌≤◌, ◌+◌, ℕ, List, [], ◌++◌, map, drop, length, get_or, Bool, true, false, Ok, IsTrue, refl, sym, ap, ◌∙◌, subst, arith}
 use Rattle.tl_action.specs.declared.changes.Changes.{Changes}
 use Rattle.std.specs.List.{list_all}
-use Rattle.tl_action.specs.declared.fault.ActFault.{ActFault}
-use Rattle.tl_action.specs.Answers.{IsCausedBy}
+use Rattle.tl_eval.specs.declared.fault.EvalFault.{EvalFault}
+use Rattle.tl_eval.specs.Faults.{IsCausedBy}
 use Rattle.tl_action.specs.Collected.{HasMore}
 use Rattle.tl_action.specs.Agreement.{EffectReads, EffectsRead, EffectLeaves, EffectsLeave}
 use Rattle.tl_action.proofs.Agreement.{agree-within, agree-through, EffectAgrees, effect-agrees}
@@ -112,7 +112,7 @@ module _ (g : Signature) (p : PlainProblem) (w : World) (e : Assignment) (all : 
         let k : list_all is_defined (effect_instances (situation_of p w) d (tree_of_effect x)) ≡ false = subst (λ (t : Bool). CollectsEffect p w d (tree_of_effect x) now then (Ok t)) q c in
         passed-undefined (all_instances (situation_of p w) e all) (all_instances (situation_of p w) e (more_effects (tree_of_effect x) others)) (effect_instances (situation_of p w) e (tree_of_effect x)) (all_instances (situation_of p w) e others) (looked_in_effects (looks_of p w) (situation_of p w) e all) (looked_in_effects (looks_of p w) (situation_of p w) e (more_effects (tree_of_effect x) others)) (looked_in_effect (looks_of p w) (situation_of p w) e (tree_of_effect x)) (looked_in_effects (looks_of p w) (situation_of p w) e others) before now rest-is looked-is opened.passed (ap (list_all is_defined) (sym (item-agrees r d f).instances) ∙ k)
 
-    pub item-fault : (a : ActFault) → IsCausedBy (looked_in_effect (looks_of p w) (situation_of p w) d (tree_of_effect x)) a → IsCausedBy (looked_in_effects (looks_of p w) (situation_of p w) e all) a
+    pub item-fault : (a : EvalFault) → IsCausedBy (looked_in_effect (looks_of p w) (situation_of p w) d (tree_of_effect x)) a → IsCausedBy (looked_in_effects (looks_of p w) (situation_of p w) e all) a
     item-fault a c = passed-fault (all_instances (situation_of p w) e all) (all_instances (situation_of p w) e (more_effects (tree_of_effect x) others)) (effect_instances (situation_of p w) e (tree_of_effect x)) (all_instances (situation_of p w) e others) (looked_in_effects (looks_of p w) (situation_of p w) e all) (looked_in_effects (looks_of p w) (situation_of p w) e (more_effects (tree_of_effect x) others)) (looked_in_effect (looks_of p w) (situation_of p w) e (tree_of_effect x)) (looked_in_effects (looks_of p w) (situation_of p w) e others) before now rest-is looked-is opened.passed a (subst (λ (ls : List Operation). IsCausedBy ls a) (item-agrees r d f).looked c)
 
 effects-ended : (p : PlainProblem) (w : World) (e : Assignment) (items : List Effect) (i : ℕ) → length items ≤ i → all_instances (situation_of p w) e (effects_of_list (map tree_of_effect (drop i items))) ≡ []

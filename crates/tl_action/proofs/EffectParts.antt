@@ -4,8 +4,8 @@ use Rattle.std.proofs.lemmas.Bool.{eq-eqb}
 use Rattle.std.proofs.lemmas.List.{map-append}
 use Rattle.std.specs.List.{list_all}
 use Rattle.tl_action.specs.declared.changes.Changes.{Changes}
-use Rattle.tl_action.specs.declared.fault.ActFault.{ActFault}
-use Rattle.tl_action.specs.declared.fault.ActFault.TheVariants as fault
+use Rattle.tl_eval.specs.declared.fault.EvalFault.{EvalFault}
+use Rattle.tl_eval.specs.declared.fault.EvalFault.TheVariants as fault
 use Rattle.tl_action.specs.Agreement.{Agree, EffectReads, EffectsRead, EachReads, EffectLeaves, EffectsLeave, EachLeaves}
 use Rattle.tl_action.specs.Collected.{HasMore, Collects, GivesFact, GivesPlace}
 use Rattle.tl_action.proofs.Agreement.{agree-both, agree-through, agree-under, bind-leaves, slot-of-two, EffectsAgree, effects-agree}
@@ -52,7 +52,7 @@ use Rattle.tl_terms.specs.World.{World}
 
 -- ---- facts and places
 
-pub add-one : (p : ℕ) (o : Option (List Value)) (looked : List Operation) (before : Changes) (after : List Fact) (r : Result Bool ActFault) → GivesFact p o looked before.adds after r → Collects (adds p o ∷ []) looked before (record before { adds = after }) r
+pub add-one : (p : ℕ) (o : Option (List Value)) (looked : List Operation) (before : Changes) (after : List Fact) (r : Result Bool EvalFault) → GivesFact p o looked before.adds after r → Collects (adds p o ∷ []) looked before (record before { adds = after }) r
 add-one p o looked before after (Ok true) h =
     subst (λ (x : Option (List Value)). HasMore (adds p x ∷ []) before (record before { adds = after })) (sym h.1) (record {
       defined = refl;
@@ -63,7 +63,7 @@ add-one p o looked before after (Ok true) h =
 add-one p o looked before after (Ok false) h = ap (λ (x : Option (List Value)). list_all is_defined (adds p x ∷ [])) h
 add-one p o looked before after (Err x) h = h
 
-pub del-one : (p : ℕ) (o : Option (List Value)) (looked : List Operation) (before : Changes) (after : List Fact) (r : Result Bool ActFault) → GivesFact p o looked before.dels after r → Collects (dels p o ∷ []) looked before (record before { dels = after }) r
+pub del-one : (p : ℕ) (o : Option (List Value)) (looked : List Operation) (before : Changes) (after : List Fact) (r : Result Bool EvalFault) → GivesFact p o looked before.dels after r → Collects (dels p o ∷ []) looked before (record before { dels = after }) r
 del-one p o looked before after (Ok true) h =
     subst (λ (x : Option (List Value)). HasMore (dels p x ∷ []) before (record before { dels = after })) (sym h.1) (record {
       defined = refl;
@@ -78,7 +78,7 @@ undefined-value : (f : ℕ) (o : Option (List Value)) → list_all is_defined (s
 undefined-value f (Some vs) = refl
 undefined-value f None = refl
 
-pub set-one : (f : ℕ) (o : Option (List Value)) (u : Option Value) (looked ls : List Operation) (before : Changes) (after : List PlaceValue) (r : Result Bool ActFault) → GivesPlace f o u looked ls before.sets after r → Collects (sets f o u ∷ []) (looked ++ ls) before (record before { sets = after }) r
+pub set-one : (f : ℕ) (o : Option (List Value)) (u : Option Value) (looked ls : List Operation) (before : Changes) (after : List PlaceValue) (r : Result Bool EvalFault) → GivesPlace f o u looked ls before.sets after r → Collects (sets f o u ∷ []) (looked ++ ls) before (record before { sets = after }) r
 set-one f o u looked ls before after (Ok true) h =
     subst (λ (x : Option (List Value)). HasMore (sets f x u ∷ []) before (record before { sets = after })) (sym h.2)
     (subst (λ (y : Option Value). HasMore (sets f (Some h.0) y ∷ []) before (record before { sets = after })) (sym h.3) (record {
@@ -95,10 +95,10 @@ set-one f o u looked ls before after (Err x) h = h
 
 -- ---- effects by their kinds
 
-abbrev pub CollectsEffect : PlainProblem → World → Assignment → EffectTree → Changes → Changes → Result Bool ActFault → Type 0
+abbrev pub CollectsEffect : PlainProblem → World → Assignment → EffectTree → Changes → Changes → Result Bool EvalFault → Type 0
 CollectsEffect p w e x before after r = Collects (effect_instances (situation_of p w) e x) (looked_in_effect (looks_of p w) (situation_of p w) e x) before after r
 
-abbrev pub CollectsAll : PlainProblem → World → Assignment → EffectTrees → Changes → Changes → Result Bool ActFault → Type 0
+abbrev pub CollectsAll : PlainProblem → World → Assignment → EffectTrees → Changes → Changes → Result Bool EvalFault → Type 0
 CollectsAll p w e xs before after r = Collects (all_instances (situation_of p w) e xs) (looked_in_effects (looks_of p w) (situation_of p w) e xs) before after r
 
 pub reads-Add : (g : Signature) (x : Effect) (p : ℕ) (ts : Terms) → x ≡ variant.Add p ts → EffectReads g (tree_of_effect x) → TermsFit g (tree_of_terms ts)
@@ -113,7 +113,7 @@ pub reads-Assign : (g : Signature) (x : Effect) (f : ℕ) (ts : Terms) (t : Term
 unfolding EffectFits
 reads-Assign g x f ts t q r = let k : EffectReads g (assign f (tree_of_terms ts) (tree_of_term t)) = subst (EffectReads g) (ap tree_of_effect q ∙ tree-Assign f ts t) r in (k.fits.1, k.fits.2)
 
-module _ (p : PlainProblem) (w : World) (e : Assignment) (x : Effect) (before : Changes) (r : Result Bool ActFault) where
+module _ (p : PlainProblem) (w : World) (e : Assignment) (x : Effect) (before : Changes) (r : Result Bool EvalFault) where
   pub at-Add : (n : ℕ) (ts : Terms) (after : List Fact) → x ≡ variant.Add n ts → GivesFact n (term_values w e (tree_of_terms ts)) (looked_in_each w e (tree_of_terms ts)) before.adds after r → CollectsEffect p w e (tree_of_effect x) before (record before { adds = after }) r
   unfolding effect_instances looked_in_effect situation_of
   at-Add n ts after q h = subst (λ (y : EffectTree). CollectsEffect p w e y before (record before { adds = after }) r) (sym (ap tree_of_effect q ∙ tree-Add n ts)) (add-one n (term_values w e (tree_of_terms ts)) (looked_in_each w e (tree_of_terms ts)) before after r h)
@@ -155,13 +155,13 @@ reads-When g x f xs q r =
       smaller = omega arith;
     }
 
-pub collects-more : (cs : List EffectInstance) (ls ms : List Operation) (before after : Changes) (r : Result Bool ActFault) → ((o : Operation) → Among o ls → Among o ms) → Collects cs ls before after r → Collects cs ms before after r
+pub collects-more : (cs : List EffectInstance) (ls ms : List Operation) (before after : Changes) (r : Result Bool EvalFault) → ((o : Operation) → Among o ls → Among o ms) → Collects cs ls before after r → Collects cs ms before after r
 collects-more cs ls ms before after (Ok true) m h = h
 collects-more cs ls ms before after (Ok false) m h = h
 collects-more cs ls ms before after (Err x) m h = caused-more ls ms x m h
 
 module _ (p : PlainProblem) (w : World) (e : Assignment) (x : Effect) (f : Formula) (xs : Effects) (q : x ≡ variant.When f xs) (before : Changes) where
-  opened : (t : Bool) → t ≡ state_true (situation_of p w) e (tree_of_formula f) → (after : Changes) (r : Result Bool ActFault)
+  opened : (t : Bool) → t ≡ state_true (situation_of p w) e (tree_of_formula f) → (after : Changes) (r : Result Bool EvalFault)
       → Collects (cond t (all_instances (situation_of p w) e (tree_of_effects xs)) []) (followed_if t (looked_in_state (looks_of p w) (situation_of p w) e (tree_of_formula f)) (looked_in_effects (looks_of p w) (situation_of p w) e (tree_of_effects xs))) before after r
       → CollectsEffect p w e (tree_of_effect x) before after r
   unfolding effect_instances looked_in_effect
@@ -169,7 +169,7 @@ module _ (p : PlainProblem) (w : World) (e : Assignment) (x : Effect) (f : Formu
       subst (λ (y : EffectTree). CollectsEffect p w e y before after r) (sym (ap tree_of_effect q ∙ tree-When f xs))
       (subst (λ (b : Bool). Collects (cond b (all_instances (situation_of p w) e (tree_of_effects xs)) []) (followed_if b (looked_in_state (looks_of p w) (situation_of p w) e (tree_of_formula f)) (looked_in_effects (looks_of p w) (situation_of p w) e (tree_of_effects xs))) before after r) k h)
 
-  pub when-true : true ≡ state_true (situation_of p w) e (tree_of_formula f) → (after : Changes) (r : Result Bool ActFault) → CollectsAll p w e (tree_of_effects xs) before after r → CollectsEffect p w e (tree_of_effect x) before after r
+  pub when-true : true ≡ state_true (situation_of p w) e (tree_of_formula f) → (after : Changes) (r : Result Bool EvalFault) → CollectsAll p w e (tree_of_effects xs) before after r → CollectsEffect p w e (tree_of_effect x) before after r
   when-true k after r h = opened true k after r (collects-more (all_instances (situation_of p w) e (tree_of_effects xs)) (looked_in_effects (looks_of p w) (situation_of p w) e (tree_of_effects xs)) (looked_in_state (looks_of p w) (situation_of p w) e (tree_of_formula f) ++ looked_in_effects (looks_of p w) (situation_of p w) e (tree_of_effects xs)) before after r (λ o. among-right o (looked_in_state (looks_of p w) (situation_of p w) e (tree_of_formula f)) (looked_in_effects (looks_of p w) (situation_of p w) e (tree_of_effects xs))) h)
 
   pub when-false : false ≡ state_true (situation_of p w) e (tree_of_formula f) → CollectsEffect p w e (tree_of_effect x) before before (Ok true)
@@ -224,7 +224,7 @@ instances_for p w e ss xs ts = flat_map (λ t. all_instances (situation_of p w) 
 abbrev pub looked_for : PlainProblem → World → Assignment → List Var → EffectTrees → List (List Value) → List Operation
 looked_for p w e ss xs ts = flat_map (λ t. looked_in_effects (looks_of p w) (situation_of p w) (bind ss t e) xs) ts
 
-pub at-Each : (p : PlainProblem) (w : World) (e : Assignment) (x : Effect) (ss : List Var) (b : Bound) (xs : Effects) (ts : List (List Value)) (before after : Changes) (r : Result Bool ActFault) → x ≡ variant.Each ss b xs → ts ≡ tuples (situation_of p w) e ss b
+pub at-Each : (p : PlainProblem) (w : World) (e : Assignment) (x : Effect) (ss : List Var) (b : Bound) (xs : Effects) (ts : List (List Value)) (before after : Changes) (r : Result Bool EvalFault) → x ≡ variant.Each ss b xs → ts ≡ tuples (situation_of p w) e ss b
     → Collects (instances_for p w e ss (tree_of_effects xs) ts) (looked_for p w e ss (tree_of_effects xs) ts) before after r → CollectsEffect p w e (tree_of_effect x) before after r
 unfolding effect_instances looked_in_effect
 at-Each p w e x ss b xs ts before after r q k h =

@@ -2,9 +2,9 @@
 use Rattle.std.proofs.Common.{◌≡◌, List, [], ◌∷◌, Bool, true, false, Ok, refl, sym, ap, ◌∙◌, subst}
 use Rattle.std.specs.List.{list_all}
 use Rattle.tl_action.specs.declared.changes.Changes.{Changes}
-use Rattle.tl_action.specs.declared.fault.ActFault.{ActFault}
+use Rattle.tl_eval.specs.declared.fault.EvalFault.{EvalFault}
 use Rattle.tl_action.specs.Agreement.{EachReads, EachLeaves}
-use Rattle.tl_action.specs.Answers.{IsCausedBy}
+use Rattle.tl_eval.specs.Faults.{IsCausedBy}
 use Rattle.tl_action.specs.Collected.{HasMore}
 use Rattle.tl_action.proofs.Agreement.{EffectsAgree}
 use Rattle.tl_action.proofs.EffectParts.{CollectsAll, instances_for, looked_for, tuple-agrees}
@@ -45,7 +45,7 @@ module _ (g : Signature) (p : PlainProblem) (w : World) (e : Assignment) (ss : L
       let l : list_all is_defined (all_instances (situation_of p w) d xs) ≡ false = subst (λ (t : Bool). CollectsAll p w d xs now then (Ok t)) z a in
       passed-undefined (instances_for p w e ss xs all) (instances_for p w e ss xs (t ∷ others)) (all_instances (situation_of p w) (bind ss t e) xs) (instances_for p w e ss xs others) (looked_for p w e ss xs all) (looked_for p w e ss xs (t ∷ others)) (looked_in_effects (looks_of p w) (situation_of p w) (bind ss t e) xs) (looked_for p w e ss xs others) before now refl refl opened.passed (ap (list_all is_defined) (sym same.instances) ∙ l)
 
-  pub tuple-fault : (a : ActFault) → IsCausedBy (looked_in_effects (looks_of p w) (situation_of p w) d xs) a → IsCausedBy (looked_for p w e ss xs all) a
+  pub tuple-fault : (a : EvalFault) → IsCausedBy (looked_in_effects (looks_of p w) (situation_of p w) d xs) a → IsCausedBy (looked_for p w e ss xs all) a
   tuple-fault a l =
       passed-fault (instances_for p w e ss xs all) (instances_for p w e ss xs (t ∷ others)) (all_instances (situation_of p w) (bind ss t e) xs) (instances_for p w e ss xs others) (looked_for p w e ss xs all) (looked_for p w e ss xs (t ∷ others)) (looked_in_effects (looks_of p w) (situation_of p w) (bind ss t e) xs) (looked_for p w e ss xs others) before now refl refl opened.passed a (subst (λ (ls : List Operation). IsCausedBy ls a) same.looked l)
 

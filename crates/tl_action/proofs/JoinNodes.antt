@@ -1,8 +1,8 @@
 -- A bound of an operator with its new variables.
 use Rattle.std.proofs.Common.{◌≡◌, ◌↔◌, ◌⊎◌, ◌<◌, ◌≤◌, ◌+◌, ℕ, List, [], ◌∷◌, ◌++◌, filter, take, drop, length, get_or, Bool, true, false, cond, ◌&&◌, not, Result, Ok, Err, inl, inr, refl, sym, ap, ◌∙◌, subst, arith}
 use Rattle.tl_action.specs.declared.arranged.Arranged.{Arranged}
-use Rattle.tl_action.specs.declared.fault.ActFault.{ActFault}
-use Rattle.tl_action.specs.declared.fault.ActFault.TheVariants as fault
+use Rattle.tl_eval.specs.declared.fault.EvalFault.{EvalFault}
+use Rattle.tl_eval.specs.declared.fault.EvalFault.TheVariants as fault
 use Rattle.tl_action.specs.Join.{arranged, bound_count, new_parameters_in, stands_in_one, is_new, new_from, AgreeOnSeen, HasNoCompletion, IsCompletion, IsFound, IsPassed, IsRowFault, AddsRows}
 use Rattle.tl_action.proofs.BoundOrders.{arranged-keeps}
 use Rattle.tl_action.proofs.Completions.{known-before, known-kept, completion-past, completion-none}
@@ -127,7 +127,7 @@ module _ (g : Signature) (p : PlainProblem) (w : World) (o : Operator) (j : ℕ)
       (subst (λ (vs : List (List Value)). SoFar (seen ++ b ∷ []) e (filter (is_new seen b) o.params) vs before now) (z ∙ ap (λ (ss : List Var). tuples (situation_of p w) e ss b) node.is)
       (subst (λ (ss : List Var). SoFar (seen ++ b ∷ []) e ss us before now) node.is (subst (λ (bs : List Bound). SoFar bs e vars us before now) ends r))))
 
-  pub node-fault : (e c d : Assignment) (u : List Value) → d ≡ bind vars u c → AgreeOnSeen seen o.params c e → Among u (tuples (situation_of p w) e vars b) → (x : ActFault) → IsRowFault p w (plain_operator o) (take (j + 1) o.bounds) rest d x
+  pub node-fault : (e c d : Assignment) (u : List Value) → d ≡ bind vars u c → AgreeOnSeen seen o.params c e → Among u (tuples (situation_of p w) e vars b) → (x : EvalFault) → IsRowFault p w (plain_operator o) (take (j + 1) o.bounds) rest d x
       → IsRowFault p w (plain_operator o) seen (drop j o.bounds) e x
   node-fault e c d u z l m x f =
       let ends = take-opened o.bounds j b k q in
@@ -158,7 +158,7 @@ module _ (g : Signature) (p : PlainProblem) (w : World) (o : Operator) (j : ℕ)
       (subst (λ (bs : List Bound). IsCompletion p w (plain_operator o) seen bs e t) (drop-opened o.bounds j b k q) ((h.same t).0 c))
 
 -- rows and faults from the k-th bound on are those from the j-th on
-pub joins-past : (p : PlainProblem) (w : World) (o : Operator) (e : Assignment) (j k : ℕ) → IsPassed p w o e j k → (before after : List (List Value)) (r : Result (Unit {0}) ActFault)
+pub joins-past : (p : PlainProblem) (w : World) (o : Operator) (e : Assignment) (j k : ℕ) → IsPassed p w o e j k → (before after : List (List Value)) (r : Result (Unit {0}) EvalFault)
     → AddsRows p w (plain_operator o) (take k o.bounds) (drop k o.bounds) e before after r → AddsRows p w (plain_operator o) (take j o.bounds) (drop j o.bounds) e before after r
 joins-past p w o e j k h before after (Ok done) f = λ t. (
   λ m. elim ((f t).0 m) [ inl a ↦ inl a | inr x ↦ inr (record { completes = (h.same t).1 x.completes; prepared = x.prepared }) ],

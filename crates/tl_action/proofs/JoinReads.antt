@@ -1,6 +1,6 @@
 -- The tuples of a bound's new variables, read one after another.
 use Rattle.std.proofs.Common.{◌≡◌, ◌↔◌, ◌⊎◌, ◌<◌, ◌+◌, ℕ, List, [], ◌∷◌, ◌++◌, take, drop, length, get_or, Option, Some, None, inl, inr, sym, subst}
-use Rattle.tl_action.specs.declared.fault.ActFault.{ActFault}
+use Rattle.tl_eval.specs.declared.fault.EvalFault.{EvalFault}
 use Rattle.tl_action.specs.Join.{AgreeOnSeen, IsFound, IsRowFault}
 use Rattle.tl_action.proofs.BoundTuples.{left, none-done, done-on, done-all, next-among, fewer-left}
 use Rattle.tl_action.proofs.JoinNodes.{Node, node-on, node-end, node-fault}
@@ -42,7 +42,7 @@ module _ (g : Signature) (p : PlainProblem) (w : World) (o : Operator) (j : ℕ)
     rows = node-on g p w o j b vars k q node e c d u h.done before now then put l h.rows f;
   })
 
-  pub read-fault : (c d : Assignment) (u : List Value) → next ≡ Some u → d ≡ bind vars u c → AgreeOnSeen (take j o.bounds) o.params c e → (x : ActFault) → IsRowFault p w (plain_operator o) (take (j + 1) o.bounds) (drop (j + 1) o.bounds) d x
+  pub read-fault : (c d : Assignment) (u : List Value) → next ≡ Some u → d ≡ bind vars u c → AgreeOnSeen (take j o.bounds) o.params c e → (x : EvalFault) → IsRowFault p w (plain_operator o) (take (j + 1) o.bounds) (drop (j + 1) o.bounds) d x
       → IsRowFault p w (plain_operator o) (take j o.bounds) (drop j o.bounds) e x
   read-fault c d u z put l x f = node-fault g p w o j b vars k q node e c d u put l (next-among (situation_of p w) e vars b node.differ node.occur after next n h.done h.all u z) x f
 

@@ -3,7 +3,7 @@ use Rattle.std.proofs.Common.{◌≡◌, ℕ, List, [], ◌∷◌, length, Optio
 use Rattle.tl_action.specs.Actions.{StaysNamed}
 use Rattle.tl_action.specs.ChangedWorlds.{AreChangesOf, LeaveNamed, world_after}
 use Rattle.tl_action.specs.declared.changes.Changes.{Changes}
-use Rattle.tl_action.specs.declared.fault.ActFault.{ActFault}
+use Rattle.tl_eval.specs.declared.fault.EvalFault.{EvalFault}
 use Rattle.tl_syntax.specs.declared.action.Action.{Action}
 use Rattle.tl_syntax.specs.declared.operator.Operator.{Operator}
 use Rattle.tl_syntax.specs.declared.problem.Problem.{Problem}
@@ -33,7 +33,7 @@ effects-named p =
 pub next-named : (p : Problem) (w : World) (a : Action) (next : World) → Some next ≡ step (plain_problem p) w a → StaysNamed (length p.names) w a next
 next-named p w a next h = λ world args. step-named (length p.names) (plain_problem p) (goal-named p) (avoid-named p) w world a next (effects-named p) args (sym h)
 
-pub answer-named : (p : Problem) (w : World) (a : Action) (r : Result (Option Changes) ActFault) → IfOk r (AreChangesOf (plain_problem p) w a) → IfOk r (λ o. IfSome o (LeaveNamed (length p.names) w a))
+pub answer-named : (p : Problem) (w : World) (a : Action) (r : Result (Option Changes) EvalFault) → IfOk r (AreChangesOf (plain_problem p) w a) → IfOk r (λ o. IfSome o (LeaveNamed (length p.names) w a))
 answer-named p w a (Ok (Some c)) h = next-named p w a (world_after w c) h
 answer-named p w a (Ok None) h = tt
 answer-named p w a (Err x) h = tt

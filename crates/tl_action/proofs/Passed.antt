@@ -2,9 +2,9 @@
 use Rattle.std.proofs.Common.{◌≡◌, List, [], ◌∷◌, ◌++◌, map, flat_map, append_assoc, append-nil, Bool, true, false, ◌&&◌, refl, sym, ap, ap₂, ◌∙◌, subst}
 use Rattle.std.specs.List.{list_all}
 use Rattle.tl_action.specs.declared.changes.Changes.{Changes}
-use Rattle.tl_action.specs.declared.fault.ActFault.{ActFault}
-use Rattle.tl_action.specs.declared.fault.ActFault.TheVariants as fault
-use Rattle.tl_action.specs.Answers.{IsCausedBy}
+use Rattle.tl_eval.specs.declared.fault.EvalFault.{EvalFault}
+use Rattle.tl_eval.specs.declared.fault.EvalFault.TheVariants as fault
+use Rattle.tl_eval.specs.Faults.{IsCausedBy}
 use Rattle.tl_action.specs.Collected.{HasMore}
 use Rattle.tl_eval.specs.Notes.{operation_of}
 use Rattle.tl_eval.proofs.TermLaws.{among-left, among-right}
@@ -22,7 +22,7 @@ all-two p [] ys = refl
 all-two p (x ∷ xs) ys = (elim (p x) as (λ b. (b && list_all p (xs ++ ys)) ≡ ((b && list_all p xs) && list_all p ys)) [ true ↦ all-two p xs ys | false ↦ refl ])
 
 -- a cause is one of more operations too
-pub caused-more : (ls ms : List Operation) (x : ActFault) → ((o : Operation) → Among o ls → Among o ms) → IsCausedBy ls x → IsCausedBy ms x
+pub caused-more : (ls ms : List Operation) (x : EvalFault) → ((o : Operation) → Among o ls → Among o ms) → IsCausedBy ls x → IsCausedBy ms x
 caused-more ls ms (fault.Range note) more h = (more (operation_of note) h.0, h.1)
 caused-more ls ms fault.NoMemory more h = tt
 
@@ -68,7 +68,7 @@ module _ (all rest xs others : List EffectInstance) (looked looked_rest ls looke
   passed-undefined k =
       ap (list_all is_defined) (h.instances ∙ ap (λ u. h.done ++ u) q) ∙ (all-two is_defined h.done (xs ++ others) ∙ (ap (λ (b : Bool). b && list_all is_defined (xs ++ others)) h.more.defined ∙ (all-two is_defined xs others ∙ ap (λ (b : Bool). b && list_all is_defined others) k)))
 
-  pub passed-fault : (x : ActFault) → IsCausedBy ls x → IsCausedBy looked x
+  pub passed-fault : (x : EvalFault) → IsCausedBy ls x → IsCausedBy looked x
   passed-fault x k = caused-more ls looked x (λ o m. h.operations o (subst (λ u. Among o u) (sym r) (among-left o ls looked_others m))) k
 
 pub passed-end : (all rest : List EffectInstance) (looked looked_rest : List Operation) (before now : Changes) → rest ≡ [] → Passed all looked rest looked_rest before now → HasMore all before now

@@ -1,10 +1,10 @@
 -- The rows that are found, one by one.
 use Rattle.std.proofs.Common.{◌≡◌, ◌↔◌, ◌⊎◌, ℕ, suc, List, [], ◌∷◌, ◌++◌, filter, length, Bool, true, false, cond, ◌==◌, Option, Some, None, IsTrue, inl, inr, refl, sym, ap, ◌∙◌, subst, arith, eqb-true}
 use Rattle.std.proofs.lemmas.Bool.{eq-eqb}
-use Rattle.tl_action.specs.declared.fault.ActFault.{ActFault}
-use Rattle.tl_action.specs.declared.fault.ActFault.TheVariants as fault
+use Rattle.tl_eval.specs.declared.fault.EvalFault.{EvalFault}
+use Rattle.tl_eval.specs.declared.fault.EvalFault.TheVariants as fault
 use Rattle.tl_action.specs.Agreement.{Agree}
-use Rattle.tl_action.specs.Answers.{IsCausedBy}
+use Rattle.tl_eval.specs.Faults.{IsCausedBy}
 use Rattle.tl_action.specs.Join.{stands_in_one, is_new, variables, AgreeOnSeen, row_assignment, IsCompletion, IsFound, IsRowFault}
 use Rattle.tl_action.specs.Prepared.{is_prepared, looked_prepared}
 use Rattle.tl_action.proofs.Completions.{known-through, completion-out, completion-in, completion-alike}
@@ -114,7 +114,7 @@ module _ (g : Signature) (n : ℕ) (p : PlainProblem) (w : World) (o : Operator)
   pub found-row : (t : List Value) → IsFound p w (plain_operator o) all [] e t → (term_values w e (variables o.params) ≡ Some t) × (is_prepared p w e (plain_operator o) ≡ true)
   found-row t h = let r = completion-row t h.completes in (r, (operator-agrees g n p w o e (row_assignment (plain_operator o) t) keeps (row-frame t r)).prepared ∙ h.prepared)
 
-  pub row-fault : (t : List Value) (x : ActFault) → term_values w e (variables o.params) ≡ Some t → IsCausedBy (looked_prepared p w e (plain_operator o)) x → IsRowFault p w (plain_operator o) all [] e x
+  pub row-fault : (t : List Value) (x : EvalFault) → term_values w e (variables o.params) ≡ Some t → IsCausedBy (looked_prepared p w e (plain_operator o)) x → IsRowFault p w (plain_operator o) all [] e x
   row-fault t (fault.Range note) h k = (t, row-completion t h, subst (λ (ls : List Operation). Tells ls note) (operator-agrees g n p w o e (row_assignment (plain_operator o) t) keeps (row-frame t h)).looked k)
   row-fault t fault.NoMemory h k = tt
 
@@ -186,7 +186,7 @@ module _ (p : PlainProblem) (w : World) (o : PlainOperator) (seen : List Bound) 
       )
 
   -- a fault for a tuple
-  pub rows-fault : DifferInSlot fresh → OccurIn fresh b → (e c d : Assignment) (u : List Value) → d ≡ bind fresh u c → AgreeOnSeen seen o.params c e → Among u (tuples (situation_of p w) e fresh b) → (x : ActFault) → IsRowFault p w o after rest d x → IsRowFault p w o seen (b ∷ rest) e x
+  pub rows-fault : DifferInSlot fresh → OccurIn fresh b → (e c d : Assignment) (u : List Value) → d ≡ bind fresh u c → AgreeOnSeen seen o.params c e → Among u (tuples (situation_of p w) e fresh b) → (x : EvalFault) → IsRowFault p w o after rest d x → IsRowFault p w o seen (b ∷ rest) e x
   rows-fault differ occur e c d u q k m (fault.Range note) h =
       let there = completion-alike p w o after rest (bind fresh u c) (bind fresh u e) h.0 (known-through p w o seen b rest scope u c e k) (subst (λ (a : Assignment). IsCompletion p w o after rest a h.0) q h.1) in
       (h.0, completion-in p w o seen b rest scope differ occur e h.0 u m there, h.2)

@@ -1,8 +1,8 @@
 -- The actions of a world, and why their list is not given.
 use Rattle.std.specs.Prelude.{◌↔◌, ℕ, List, length, map, IsTrue, is_some}
-use Rattle.tl_action.specs.declared.fault.ActFault.{ActFault}
-use Rattle.tl_action.specs.declared.fault.ActFault.TheVariants as fault
-use Rattle.tl_action.specs.Answers.{IsCausedBy}
+use Rattle.tl_eval.specs.declared.fault.EvalFault.{EvalFault}
+use Rattle.tl_eval.specs.declared.fault.EvalFault.TheVariants as fault
+use Rattle.tl_eval.specs.Faults.{IsCausedBy}
 use Rattle.tl_eval.specs.Notes.{Tells}
 use Rattle.tl_syntax.specs.declared.action.Action.{Action}
 use Rattle.tl_syntax.specs.declared.value.Value.{Value}
@@ -50,11 +50,11 @@ name_count task = length task.problem.names
 
 -- the note is of an operation that the action looks at, and which is past range; want of memory has
 -- no cause
-abbrev pub IsCausedByAction : PlainProblem → World → Action → ActFault → Type 0
+abbrev pub IsCausedByAction : PlainProblem → World → Action → EvalFault → Type 0
 IsCausedByAction p w a x = IsCausedBy (looked_by_action p w a) x
 
 -- the note is of an operation that some action looks at, and which is past range; want of memory
 -- has no cause
-abbrev pub IsCausedBySome : PlainProblem → World → ActFault → Type 0
+abbrev pub IsCausedBySome : PlainProblem → World → EvalFault → Type 0
 IsCausedBySome p w (fault.Range note) = (a : Action) × Tells (looked_by_action p w a) note
 IsCausedBySome p w fault.NoMemory = Unit {0}

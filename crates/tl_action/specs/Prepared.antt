@@ -2,8 +2,8 @@
 use Rattle.std.specs.Prelude.{◌≡◌, ℕ, List, flat_map, Bool, true, false, ◌&&◌, Option, Some, None, Result, Ok, Err, IsTrue, is_some}
 use Rattle.std.specs.List.{list_all}
 use Rattle.tl_action.specs.declared.changes.Changes.{Changes}
-use Rattle.tl_action.specs.declared.fault.ActFault.{ActFault}
-use Rattle.tl_action.specs.Answers.{IsCausedBy}
+use Rattle.tl_eval.specs.declared.fault.EvalFault.{EvalFault}
+use Rattle.tl_eval.specs.Faults.{IsCausedBy}
 use Rattle.tl_action.specs.Collected.{no_changes, HasMore}
 use Rattle.tl_syntax.specs.Assignment.{Assignment}
 use Rattle.tl_syntax.specs.Keys.{no_clash}
@@ -37,13 +37,13 @@ looked_prepared p w e o =
 
 -- the changes that the effects make; none where an instance is undefined or two clash; or a fault
 -- with its cause
-abbrev pub CollectsWhole : PlainProblem → World → Assignment → PlainOperator → Result (Option Changes) ActFault → Type 0
+abbrev pub CollectsWhole : PlainProblem → World → Assignment → PlainOperator → Result (Option Changes) EvalFault → Type 0
 CollectsWhole p w e o (Ok (Some changes)) = (no_clash (flat_map given (instances_of p w e o)) ≡ true) × HasMore (instances_of p w e o) no_changes changes
 CollectsWhole p w e o (Ok None) = (list_all is_defined (instances_of p w e o) && no_clash (flat_map given (instances_of p w e o))) ≡ false
 CollectsWhole p w e o (Err fault) = IsCausedBy (looked_in_effects (looks_of p w) (situation_of p w) e o.effects) fault
 
 -- the changes, where it can be applied; none where it cannot; or a fault with its cause
-abbrev pub Prepares : PlainProblem → World → Assignment → PlainOperator → Result (Option Changes) ActFault → Type 0
+abbrev pub Prepares : PlainProblem → World → Assignment → PlainOperator → Result (Option Changes) EvalFault → Type 0
 Prepares p w e o (Ok (Some changes)) = (is_prepared p w e o ≡ true) × HasMore (instances_of p w e o) no_changes changes
 Prepares p w e o (Ok None) = is_prepared p w e o ≡ false
 Prepares p w e o (Err fault) = IsCausedBy (looked_prepared p w e o) fault

@@ -1,7 +1,7 @@
 -- What is said of the step of an action in a world of a task.
 use Rattle.std.specs.Prelude.{◌≡◌, Option, IfSome}
 use Rattle.tl_action.specs.declared.changes.Changes.{Changes}
-use Rattle.tl_action.specs.declared.fault.ActFault.{ActFault}
+use Rattle.tl_eval.specs.declared.fault.EvalFault.{EvalFault}
 use Rattle.tl_action.specs.declared.here.Here.{Here}
 use Rattle.tl_action.specs.Actions.{HasOperator, IsCausedByAction, IsExecutable, StaysNamed, name_count}
 use Rattle.tl_action.specs.ChangedWorlds.{AreChangesOf, LeaveNamed, MakeWorldAfter}
@@ -44,5 +44,5 @@ LeaveNamedHere here a changes = IfSome changes (LeaveNamed (name_count here.task
 
 -- the note is of an operation that the action looks at, and which is past range; want of memory has
 -- no cause
-abbrev pub IsFaultHere : Here → Action → ActFault → Type 0
+abbrev pub IsFaultHere : Here → Action → EvalFault → Type 0
 IsFaultHere here a fault = IsCausedByAction (problem_here here) here.world.now a fault

@@ -6,7 +6,7 @@ use Rattle.tl_action.specs.declared.arranged.Arranged.{Arranged}
 use Rattle.tl_action.specs.declared.changes.Changes.{Changes}
 use Rattle.tl_action.specs.declared.collect.ForEach.{ForEach}
 use Rattle.tl_action.specs.declared.collect.Setting.{Setting}
-use Rattle.tl_action.specs.declared.fault.ActFault.{ActFault}
+use Rattle.tl_eval.specs.declared.fault.EvalFault.{EvalFault}
 use Rattle.tl_action.specs.declared.here.Here.{Here}
 use Rattle.tl_action.specs.Agreement.{Agree, EffectReads, EffectsRead, EachReads, EffectLeaves, EffectsLeave, EachLeaves}
 use Rattle.tl_action.specs.Answers.{Answers}
@@ -91,7 +91,7 @@ abbrev pub looked_for_values : Here → List (Option Value) → Terms → List O
 looked_for_values here frame ts = looked_in_each here.world.now (assignment_in frame) (tree_of_terms ts)
 
 -- these values, where all are defined; or a fault with its cause
-abbrev pub AnswersValues : Here → List (Option Value) → Terms → Result (Option (List Value)) ActFault → Type 0
+abbrev pub AnswersValues : Here → List (Option Value) → Terms → Result (Option (List Value)) EvalFault → Type 0
 AnswersValues here frame ts r =
     Answers (values_here here frame ts) (looked_for_values here frame ts) r
 
@@ -101,12 +101,12 @@ row_here here frame ss = term_values here.world.now (assignment_in frame) (varia
 
 -- true where the terms are defined, and the fact with their values is then collected; false where
 -- they are not; or a fault with its cause
-abbrev pub FactIsCollected : Here → List (Option Value) → ℕ → Terms → List Fact → List Fact → Result Bool ActFault → Type 0
+abbrev pub FactIsCollected : Here → List (Option Value) → ℕ → Terms → List Fact → List Fact → Result Bool EvalFault → Type 0
 FactIsCollected here frame pred ts before after r =
     GivesFact pred (values_here here frame ts) (looked_for_values here frame ts) before after r
 
 -- and so for a place that an effect sets, with its value
-abbrev pub PlaceIsCollected : Here → List (Option Value) → Setting → List PlaceValue → List PlaceValue → Result Bool ActFault → Type 0
+abbrev pub PlaceIsCollected : Here → List (Option Value) → Setting → List PlaceValue → List PlaceValue → Result Bool EvalFault → Type 0
 PlaceIsCollected here frame s before after r =
     let value = term_value here.world.now (assignment_in frame) (tree_of_term s.value.now) in
     let looked = looked_in_term here.world.now (assignment_in frame) (tree_of_term s.value.now) in
@@ -114,21 +114,21 @@ PlaceIsCollected here frame s before after r =
 
 -- true where all instances of the effect are defined, whose changes are then collected; false where
 -- some is not; or a fault with its cause
-abbrev pub EffectIsCollected : Here → List (Option Value) → Effect → Changes → Changes → Result Bool ActFault → Type 0
+abbrev pub EffectIsCollected : Here → List (Option Value) → Effect → Changes → Changes → Result Bool EvalFault → Type 0
 EffectIsCollected here frame x before after r =
     let e = assignment_in frame in
     let looked = looked_in_effect (looks_of (problem_here here) here.world.now) (situation_here here) e (tree_of_effect x) in
     Collects (effect_instances (situation_here here) e (tree_of_effect x)) looked before after r
 
 -- and so for a list of effects
-abbrev pub AreCollected : Here → List (Option Value) → Effects → Changes → Changes → Result Bool ActFault → Type 0
+abbrev pub AreCollected : Here → List (Option Value) → Effects → Changes → Changes → Result Bool EvalFault → Type 0
 AreCollected here frame xs before after r =
     let e = assignment_in frame in
     let looked = looked_in_effects (looks_of (problem_here here) here.world.now) (situation_here here) e (tree_of_effects xs) in
     Collects (all_instances (situation_here here) e (tree_of_effects xs)) looked before after r
 
 -- and for effects below variables, for each tuple of their values that makes the bound true
-abbrev pub EachIsCollected : Here → List (Option Value) → ForEach → Changes → Changes → Result Bool ActFault → Type 0
+abbrev pub EachIsCollected : Here → List (Option Value) → ForEach → Changes → Changes → Result Bool EvalFault → Type 0
 EachIsCollected here frame each before after r =
     let e = assignment_in frame in
     CollectsEach (problem_here here) here.world.now e each.vars.now (tree_of_effects each.effects.now) (tuples (situation_here here) e each.vars.now each.bound.now) before after r
@@ -148,16 +148,16 @@ EachLeavesFrame here each old new =
 
 -- the changes that the operator's effects make; none where an instance is undefined or two clash;
 -- or a fault with its cause
-abbrev pub ChangesAreCollected : Here → Operator → List (Option Value) → Result (Option Changes) ActFault → Type 0
+abbrev pub ChangesAreCollected : Here → Operator → List (Option Value) → Result (Option Changes) EvalFault → Type 0
 ChangesAreCollected here o frame r = CollectsWhole (problem_here here) here.world.now (assignment_in frame) (plain_operator o) r
 
 -- the changes, where the operator can be applied; none where it cannot; or a fault with its cause
-abbrev pub ChangesArePrepared : Here → Operator → List (Option Value) → Result (Option Changes) ActFault → Type 0
+abbrev pub ChangesArePrepared : Here → Operator → List (Option Value) → Result (Option Changes) EvalFault → Type 0
 ChangesArePrepared here o frame r = Prepares (problem_here here) here.world.now (assignment_in frame) (plain_operator o) r
 
 -- whether the operator can be applied with its parameters' values in the frame; or a fault with its
 -- cause
-abbrev pub AnswersPrepared : Here → Operator → List (Option Value) → Result Bool ActFault → Type 0
+abbrev pub AnswersPrepared : Here → Operator → List (Option Value) → Result Bool EvalFault → Type 0
 AnswersPrepared here o frame r =
     let e = assignment_in frame in
     let looked = looked_prepared (problem_here here) here.world.now e (plain_operator o) in
@@ -174,12 +174,12 @@ HasNoneUnder here a frame j = HasNoCompletion (problem_here here) here.world.now
 
 -- the row of the values in the frame is added, where the operator can be applied with it; or a
 -- fault with its cause
-abbrev pub RowIsJoined : Here → Arranged → List (Option Value) → Vec (List Value) → Vec (List Value) → Result (Unit {0}) ActFault → Type 0
+abbrev pub RowIsJoined : Here → Arranged → List (Option Value) → Vec (List Value) → Vec (List Value) → Result (Unit {0}) EvalFault → Type 0
 RowIsJoined here a frame before after r =
     JoinsRow (problem_here here) here.world.now (arranged a) (assignment_in frame) before.items after.items r
 
 -- the rows that complete the frame from the j-th bound on are added; or a fault with its cause
-abbrev pub RowsAreJoined : Here → Arranged → ℕ → List (Option Value) → Vec (List Value) → Vec (List Value) → Result (Unit {0}) ActFault → Type 0
+abbrev pub RowsAreJoined : Here → Arranged → ℕ → List (Option Value) → Vec (List Value) → Vec (List Value) → Result (Unit {0}) EvalFault → Type 0
 RowsAreJoined here a j frame before after r =
     JoinsFrom (problem_here here) here.world.now (arranged a) j (assignment_in frame) before.items after.items r
 
@@ -200,9 +200,9 @@ abbrev pub AreRowsUnder : Here → Operator → List (Option Value) → List (Li
 AreRowsUnder here o frame rows = AreRowsOf (problem_here here) here.world.now (plain_operator o) (assignment_in frame) rows
 
 -- the rows that are answered are those
-abbrev pub GivesRowsUnder : Here → Operator → List (Option Value) → Result (Vec (List Value)) ActFault → Type 0
+abbrev pub GivesRowsUnder : Here → Operator → List (Option Value) → Result (Vec (List Value)) EvalFault → Type 0
 GivesRowsUnder here o frame result = IfOk result (λ rows. AreRowsUnder here o frame rows.items)
 
 -- a range fault tells an operation that is looked at with the values of a row that the bounds allow
-abbrev pub IsRowFaultUnder : Here → Operator → List (Option Value) → ActFault → Type 0
+abbrev pub IsRowFaultUnder : Here → Operator → List (Option Value) → EvalFault → Type 0
 IsRowFaultUnder here o frame fault = IsRowFault (problem_here here) here.world.now (plain_operator o) [] o.bounds (assignment_in frame) fault

@@ -6,12 +6,11 @@ ghost use Rattle.tl_syntax.specs.Lists.{Each, Rises};
 ghost use Rattle.tl_terms.specs.Orders.{action_cmp};
 ghost use Rattle.tl_terms.specs.ProblemMeaning.{plain_problem};
 
-use crate::ActFault;
 use crate::here::Here;
 use crate::operator_rows::rows_of;
 use crate::own_order::OwnOrder;
 use std::alloc::Global;
-use tl_eval::Env;
+use tl_eval::{Env, EvalFault};
 use tl_syntax::{Action, Actions, NoMemory, Operator, Values};
 use tl_world::{Task, World};
 
@@ -58,7 +57,7 @@ impl Lister {
 
     /// All actions that are executable in the world, as `actions` lists them. The lister is for the
     /// task before and after the call, a refused one included.
-    pub fn actions(&mut self, task: &Task, w: &World, env: &mut Env) -> Result<Actions, ActFault>
+    pub fn actions(&mut self, task: &Task, w: &World, env: &mut Env) -> Result<Actions, EvalFault>
         requires { ListsFor task.now self.old }
         ensures lister { ListsFor task.now self.new }
         ensures actions { IfOk result (AreActions (plain_problem task.now.problem) w.now) }
@@ -87,7 +86,7 @@ impl Lister {
 /// All actions that are executable in the world, each once, in action order: by operator, and then
 /// by the arguments in value order. A range fault tells an operation that one of them looks at; the
 /// frame is left with values of its own. For many worlds one takes a `Lister`.
-pub fn actions(alloc: Global, task: &Task, w: &World, env: &mut Env) -> Result<Actions, ActFault>
+pub fn actions(alloc: Global, task: &Task, w: &World, env: &mut Env) -> Result<Actions, EvalFault>
     ensures actions { IfOk result (AreActions (plain_problem task.now.problem) w.now) }
     ensures order { IfOk result (Rises action_cmp) }
     ensures fit { IfOk result (Each (HasOperator (plain_problem task.now.problem))) }

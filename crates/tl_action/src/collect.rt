@@ -4,11 +4,10 @@ ghost use Rattle.tl_action.specs.UnderFrames.{signature_here, TermFitsHere, Term
 ghost use Rattle.tl_syntax.specs.BoundVariables.{DifferInSlot, OccurIn};
 ghost use Rattle.tl_syntax.specs.Fits.{BoundFits};
 
-use crate::ActFault;
 use crate::changes::Changes;
 use crate::here::Here;
 use crate::values::values_of;
-use tl_eval::{Env, TupleReader, state, term};
+use tl_eval::{Env, EvalFault, TupleReader, state, term};
 use tl_syntax::{Bound, Effect, Effects, Fact, Facts, PlaceValue, PlaceValues, Term, Terms, Vars};
 
 /// Collects a fact whose arguments are the values of terms: false where one of them is undefined.
@@ -20,7 +19,7 @@ fn collect_fact(
     pred: u32,
     terms: &Terms,
     facts: &mut Facts,
-) -> Result<bool, ActFault>
+) -> Result<bool, EvalFault>
     requires { TermsFitHere here.now terms.now }
     ensures fact { FactIsCollected here.now env.old pred terms.now facts.old facts.new result }
     ensures frame { env.new ≡ env.old }
@@ -53,7 +52,7 @@ fn collect_place(
     env: &mut Env,
     setting: &Setting,
     places: &mut PlaceValues,
-) -> Result<bool, ActFault>
+) -> Result<bool, EvalFault>
     requires args { TermsFitHere here.now setting.now.args.now }
     requires value { TermFitsHere here.now setting.now.value.now }
     ensures place { PlaceIsCollected here.now env.old setting.now places.old places.new result }
@@ -70,7 +69,7 @@ fn collect_place(
                 Ok(true)
             }
             Ok(None) => Ok(false),
-            Err(note) => Err(ActFault::Range(note)),
+            Err(note) => Err(EvalFault::Range(note)),
         },
         Ok(None) => Ok(false),
         Err(fault) => Err(fault),
@@ -85,7 +84,7 @@ fn collect(
     env: &mut Env,
     effect: &Effect,
     changes: &mut Changes,
-) -> Result<bool, ActFault>
+) -> Result<bool, EvalFault>
     requires { EffectReadsHere here.now effect.now }
     ensures changes { EffectIsCollected here.now env.old effect.now changes.old changes.new result }
     ensures frame { EffectLeavesFrame here.now effect.now env.old env.new }
@@ -104,7 +103,7 @@ fn collect(
         Effect::When(condition, effects) => match state(here.task, here.world, env, condition) {
             Ok(true) => collect_all(here, env, effects, changes),
             Ok(false) => Ok(true),
-            Err(note) => Err(ActFault::Range(note)),
+            Err(note) => Err(EvalFault::Range(note)),
         },
         Effect::Each(vars, bound, effects) => {
             let each = ForEach {
@@ -125,7 +124,7 @@ pub(crate) fn collect_all(
     env: &mut Env,
     effects: &Effects,
     changes: &mut Changes,
-) -> Result<bool, ActFault>
+) -> Result<bool, EvalFault>
     requires { EffectsReadHere here.now effects.now }
     ensures changes { AreCollected here.now env.old effects.now changes.old changes.new result }
     ensures frame { EffectsLeaveFrame here.now effects.now env.old env.new }
@@ -159,7 +158,7 @@ fn collect_each(
     env: &mut Env,
     each: &ForEach,
     changes: &mut Changes,
-) -> Result<bool, ActFault>
+) -> Result<bool, EvalFault>
     requires reads { EachReadsHere here.now each.now }
     requires differ { DifferInSlot each.now.vars.now }
     requires occur { OccurIn each.now.vars.now each.now.bound.now }

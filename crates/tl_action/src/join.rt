@@ -3,12 +3,11 @@ ghost use Rattle.std.specs.Prelude.{◌<◌, ◌≤◌, IfNone, IfSome};
 ghost use Rattle.tl_action.specs.Join.{bound_count};
 ghost use Rattle.tl_action.specs.UnderFrames.{OperatorIsKept, IsPassedUnder, HasNoneUnder, RowIsJoined, RowsAreJoined, KeepsKnown, KeepsParameters};
 
-use crate::ActFault;
 use crate::here::Here;
 use crate::order::JoinOrder;
 use crate::prepared::is_prepared;
 use crate::values::row_of;
-use tl_eval::{BoundPattern, Env, bound_holds};
+use tl_eval::{BoundPattern, Env, EvalFault, bound_holds};
 use tl_syntax::Values;
 
 /// Adds the row of the parameters' values in the frame, where each has one and the operator can be
@@ -18,7 +17,7 @@ fn find_row(
     env: &mut Env,
     order: &JoinOrder,
     rows: &mut Vec<Values>,
-) -> Result<(), ActFault>
+) -> Result<(), EvalFault>
     requires { OperatorIsKept here.now order.now.bounds.operator.now }
     ensures rows { RowIsJoined here.now order.now.bounds env.old rows.old rows.new result }
     ensures frame { KeepsParameters order.now.bounds.operator.now env.old env.new }
@@ -69,7 +68,7 @@ fn join_bound(
     order: &JoinOrder,
     j: usize,
     rows: &mut Vec<Values>,
-) -> Result<(), ActFault>
+) -> Result<(), EvalFault>
     requires keeps { OperatorIsKept here.now order.now.bounds.operator.now }
     requires within { j < bound_count order.now.bounds }
     ensures rows { RowsAreJoined here.now order.now.bounds j env.old rows.old rows.new result }
@@ -102,7 +101,7 @@ pub(crate) fn join(
     order: &JoinOrder,
     j: usize,
     rows: &mut Vec<Values>,
-) -> Result<(), ActFault>
+) -> Result<(), EvalFault>
     requires keeps { OperatorIsKept here.now order.now.bounds.operator.now }
     requires within { j ≤ bound_count order.now.bounds }
     ensures rows { RowsAreJoined here.now order.now.bounds j env.old rows.old rows.new result }

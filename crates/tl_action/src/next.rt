@@ -2,12 +2,11 @@
 ghost use Rattle.std.specs.Prelude.{◌≡◌, ◌+◌, IfErr, OnOk};
 ghost use Rattle.tl_action.specs.StepsHere.{IsExecutableHere, IsFaultHere, KeepNamesHere, MakeWorldHere};
 
-use crate::ActFault;
 use crate::changes::Changes;
 use crate::collect::collect_all;
 use crate::here::Here;
 use std::sync::ledger::Ledger;
-use tl_eval::Env;
+use tl_eval::{Env, EvalFault};
 use tl_syntax::Action;
 use tl_terms::Steps;
 
@@ -21,7 +20,7 @@ impl Changes {
         env: &mut Env,
         a: &Action,
         steps: &mut Steps<L>,
-    ) -> Result<(), ActFault>
+    ) -> Result<(), EvalFault>
         requires executable { IsExecutableHere here.now a.now }
         ensures world { OnOk result (MakeWorldHere here.now a.now self.new) }
         ensures named { OnOk result (KeepNamesHere here.now a.now self.new) }

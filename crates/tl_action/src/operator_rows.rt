@@ -4,13 +4,12 @@ ghost use Rattle.tl_action.specs.OwnOrders.{own_order};
 ghost use Rattle.tl_action.specs.RowLists.{IsRows};
 ghost use Rattle.tl_action.specs.UnderFrames.{OperatorIsKept, GivesRowsUnder, IsRowFaultUnder};
 
-use crate::ActFault;
 use crate::first_bound::first_bound;
 use crate::here::Here;
 use crate::join::join;
 use crate::order::JoinOrder;
 use crate::own_order::OwnOrder;
-use tl_eval::Env;
+use tl_eval::{Env, EvalFault};
 use tl_syntax::{Operator, Values};
 
 /// The rows in lexicographic value order, each once. It takes no memory.
@@ -29,7 +28,7 @@ fn rows_by(
     env: &mut Env,
     order: &JoinOrder,
     many: usize,
-) -> Result<Vec<Values>, ActFault>
+) -> Result<Vec<Values>, EvalFault>
     requires { OperatorIsKept here.now order.now.bounds.operator.now }
     ensures rows { GivesRowsUnder here.now order.now.bounds.operator.now env.old result }
     ensures cause { IfErr result (IsRowFaultUnder here.now order.now.bounds.operator.now env.old) }
@@ -42,7 +41,7 @@ fn rows_by(
 }
 
 /// How many rows were found.
-fn count(found: &Result<Vec<Values>, ActFault>) -> usize {
+fn count(found: &Result<Vec<Values>, EvalFault>) -> usize {
     match found {
         Ok(rows) => rows.len(),
         Err(_) => 0,
@@ -55,7 +54,7 @@ fn own_rows(
     env: &mut Env,
     operator: &Operator,
     own: &mut OwnOrder,
-) -> Result<Vec<Values>, ActFault>
+) -> Result<Vec<Values>, EvalFault>
     requires keeps { OperatorIsKept here.now operator.now }
     requires own { own.old ≡ own_order operator.now }
     ensures own { own.new ≡ own_order operator.now }
@@ -75,7 +74,7 @@ fn moved_rows(
     env: &mut Env,
     operator: &Operator,
     first: usize,
-) -> Result<Vec<Values>, ActFault>
+) -> Result<Vec<Values>, EvalFault>
     requires keeps { OperatorIsKept here.now operator.now }
     requires first { 0 < length operator.now.bounds → first < length operator.now.bounds }
     ensures rows { GivesRowsUnder here.now operator.now env.old result }
@@ -92,7 +91,7 @@ pub(crate) fn rows_of(
     env: &mut Env,
     operator: &Operator,
     own: &mut OwnOrder,
-) -> Result<Vec<Values>, ActFault>
+) -> Result<Vec<Values>, EvalFault>
     requires keeps { OperatorIsKept here.now operator.now }
     requires own { own.old ≡ own_order operator.now }
     ensures own { own.new ≡ own_order operator.now }

@@ -7,12 +7,11 @@ ghost use Rattle.tl_eval.specs.Frames.{assignment_in};
 ghost use Rattle.tl_syntax.specs.FreeVariables.{slots_of};
 ghost use Rattle.tl_syntax.specs.TreeOfEffect.{tree_of_effects};
 
-use crate::ActFault;
 use crate::changes::Changes;
 use crate::clash::agree;
 use crate::collect::collect_all;
 use crate::here::Here;
-use tl_eval::{Env, state};
+use tl_eval::{Env, EvalFault, state};
 use tl_syntax::Operator;
 
 /// What the operator changes, with its parameters' values in the frame, which keeps them: None
@@ -22,7 +21,7 @@ pub(crate) fn prepared(
     here: &Here,
     env: &mut Env,
     operator: &Operator,
-) -> Result<Option<Changes>, ActFault>
+) -> Result<Option<Changes>, EvalFault>
     requires { OperatorIsKept here.now operator.now }
     ensures changes { ChangesArePrepared here.now operator.now env.old result }
     ensures frame { KeepsParameters operator.now env.old env.new }
@@ -30,7 +29,7 @@ pub(crate) fn prepared(
     match state(here.task, here.world, env, &operator.pre) {
         Ok(true) => collected(here, env, operator),
         Ok(false) => Ok(None),
-        Err(note) => Err(ActFault::Range(note)),
+        Err(note) => Err(EvalFault::Range(note)),
     }
 }
 
@@ -42,7 +41,7 @@ pub(crate) fn is_prepared(
     env: &mut Env,
     operator: &Operator,
     sure: bool,
-) -> Result<bool, ActFault>
+) -> Result<bool, EvalFault>
     requires keeps { OperatorIsKept here.now operator.now }
     requires values { HaveValues (slots_of operator.now.params) (assignment_in env.old) }
     requires sure { sure ≡ are_sure (tree_of_effects operator.now.effects) }
@@ -52,7 +51,7 @@ pub(crate) fn is_prepared(
     if sure {
         return match state(here.task, here.world, env, &operator.pre) {
             Ok(truth) => Ok(truth),
-            Err(note) => Err(ActFault::Range(note)),
+            Err(note) => Err(EvalFault::Range(note)),
         };
     }
     match prepared(here, env, operator) {
@@ -64,7 +63,7 @@ pub(crate) fn is_prepared(
 
 /// What the operator's effects change: None where an instance has an undefined part, or two set one
 /// place to different values.
-fn collected(here: &Here, env: &mut Env, operator: &Operator) -> Result<Option<Changes>, ActFault>
+fn collected(here: &Here, env: &mut Env, operator: &Operator) -> Result<Option<Changes>, EvalFault>
     requires { OperatorIsKept here.now operator.now }
     ensures changes { ChangesAreCollected here.now operator.now env.old result }
     ensures frame { KeepsParameters operator.now env.old env.new }

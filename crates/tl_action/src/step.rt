@@ -3,13 +3,12 @@ ghost use Rattle.std.specs.Prelude.{◌≡◌, ◌+◌, IfOk, IfErr};
 ghost use Rattle.tl_action.specs.StepsHere.{HasOperatorHere, AreChangesHere, IsFaultHere};
 ghost use Rattle.tl_action.specs.StepsHere.{IsStepHere, LeaveNamedHere, StaysNamedHere};
 
-use crate::ActFault;
 use crate::bounds::bounds_hold;
 use crate::changes::Changes;
 use crate::here::Here;
 use crate::prepared::prepared;
 use std::sync::ledger::Ledger;
-use tl_eval::Env;
+use tl_eval::{Env, EvalFault};
 use tl_syntax::Action;
 use tl_terms::Steps;
 use tl_world::World;
@@ -22,7 +21,7 @@ pub fn changes_if_executable<L: Ledger>(
     env: &mut Env,
     a: &Action,
     steps: &mut Steps<L>,
-) -> Result<Option<Changes>, ActFault>
+) -> Result<Option<Changes>, EvalFault>
     requires operator { HasOperatorHere here.now a.now }
     ensures changes { IfOk result (AreChangesHere here.now a.now) }
     ensures named { IfOk result (LeaveNamedHere here.now a.now) }
@@ -47,7 +46,7 @@ pub fn apply<L: Ledger>(
     env: &mut Env,
     a: &Action,
     steps: &mut Steps<L>,
-) -> Result<Option<World>, ActFault>
+) -> Result<Option<World>, EvalFault>
     requires operator { HasOperatorHere here.now a.now }
     ensures world { IfOk result (IsStepHere here.now a.now) }
     ensures named { IfOk result (StaysNamedHere here.now a.now) }

@@ -2,9 +2,8 @@
 ghost use Rattle.std.specs.Prelude.{◌≡◌, IfOk};
 ghost use Rattle.tl_action.specs.UnderFrames.{row_here, TermsFitHere, AnswersValues};
 
-use crate::ActFault;
 use crate::here::Here;
-use tl_eval::{Env, term};
+use tl_eval::{Env, EvalFault, term};
 use tl_syntax::{NoMemory, Terms, Values, Var};
 
 /// The values of terms in a world, under the frame's values, where all are defined; or a fault. The
@@ -15,7 +14,7 @@ pub(crate) fn values_of(
     here: &Here,
     env: &mut Env,
     terms: &Terms,
-) -> Result<Option<Values>, ActFault>
+) -> Result<Option<Values>, EvalFault>
     requires { TermsFitHere here.now terms.now }
     ensures values { AnswersValues here.now env.old terms.now result }
     ensures frame { env.new ≡ env.old }
@@ -25,7 +24,7 @@ pub(crate) fn values_of(
         match term(here.task, here.world, env, one) {
             Ok(Some(value)) => values.push(value)?,
             Ok(None) => return Ok(None),
-            Err(note) => return Err(ActFault::Range(note)),
+            Err(note) => return Err(EvalFault::Range(note)),
         }
     }
     Ok(Some(values))

@@ -2,11 +2,11 @@
 use Rattle.std.proofs.Common.{◌≡◌, ◌≤◌, ◌<◌, ◌+◌, ◌-◌, ◌↔◌, ◌⊎◌, ℕ, zero, suc, List, [], ◌∷◌, ◌++◌, take, length, get_or, Bool, true, false, cond, Some, Err, refl, sym, ap, ◌∙◌, subst, inl, inr, arith, length-append}
 use Rattle.std.specs.Prelude.{slice_get}
 use Rattle.std.proofs.lemmas.Option.{get_or_from_slice_get}
-use Rattle.tl_action.specs.Answers.{IsCausedBy}
+use Rattle.tl_eval.specs.Faults.{IsCausedBy}
 use Rattle.tl_action.specs.ChangedWorlds.{world_after}
 use Rattle.tl_action.specs.declared.changes.Changes.{Changes}
-use Rattle.tl_action.specs.declared.fault.ActFault.{ActFault}
-use Rattle.tl_action.specs.declared.fault.ActFault.TheVariants as act
+use Rattle.tl_eval.specs.declared.fault.EvalFault.{EvalFault}
+use Rattle.tl_eval.specs.declared.fault.EvalFault.TheVariants as act
 use Rattle.tl_check.proofs.ExecutionLaws.{past-here}
 use Rattle.tl_check.proofs.HistoryLaws.{AreBeforeIn, tracks-on, each-added, each-among, among-item}
 use Rattle.tl_check.specs.Executions.{told_after}
@@ -233,6 +233,6 @@ pub record Following (p : PlainProblem) (keeps : Bool) (plan : List Action) (k :
   pub follows : Follows keeps ws t
 
 module _ (p : PlainProblem) (keeps : Bool) (plan : List Action) (k : ℕ) (ws : List World) (a : Action) (w : World) (so_far : states p (take k plan) ≡ Some ws) (l : k < length plan) (r : a ≡ get_or plan k a) (s : w ≡ get_or ws k w) where
-  pub fault-told : (x : ActFault) → IsCausedBy (looked_by_action p w a) x → IsFollowed p keeps plan (Err (told_after k x))
+  pub fault-told : (x : EvalFault) → IsCausedBy (looked_by_action p w a) x → IsFollowed p keeps plan (Err (told_after k x))
   fault-told (act.Range note) h = past-here p plan k ws a w so_far l r s note h
   fault-told act.NoMemory h = tt

@@ -10,8 +10,8 @@ use crate::CheckFault;
 use crate::trail::Trail;
 use std::alloc::Global;
 use std::sync::ledger::Ledger;
-use tl_action::{ActFault, Here, changes_if_executable};
-use tl_eval::Env;
+use tl_action::{Here, changes_if_executable};
+use tl_eval::{Env, EvalFault};
 use tl_syntax::Action;
 use tl_terms::Steps;
 use tl_world::Task;
@@ -39,12 +39,12 @@ pub(crate) struct Follow<'a> {
 }
 
 /// The fault of an action that comes after so many others. It takes no memory.
-fn fault_after(after: u32, fault: ActFault) -> CheckFault
+fn fault_after(after: u32, fault: EvalFault) -> CheckFault
     ensures { result ≡ told_after after fault }
 {
     match fault {
-        ActFault::Range(note) => CheckFault::Range { after, note },
-        ActFault::NoMemory => CheckFault::NoMemory,
+        EvalFault::Range(note) => CheckFault::Range { after, note },
+        EvalFault::NoMemory => CheckFault::NoMemory,
     }
 }
 

@@ -2,6 +2,7 @@ pub mod Frames
 pub mod InPlace
 pub mod Small
 pub mod Notes
+pub mod Faults
 pub mod TermValues
 pub mod Operates
 pub mod Reading

@@ -1,5 +1,5 @@
 // The tuples of a bound in a world, one after another.
-ghost use Rattle.std.specs.Prelude.{◌≡◌, ◌≤◌, length, true, false, None, Some, IsSome};
+ghost use Rattle.std.specs.Prelude.{◌≡◌, ◌≤◌, length, false, None, Some, IsSome, IsTrue};
 ghost use Rattle.tl_eval.specs.BoundTuples.{ReadsWhatStands, ComesToNext, ReadsSameBound, HasOneForEach};
 ghost use Rattle.tl_eval.specs.Frames.{assignment_in};
 ghost use Rattle.tl_eval.specs.PatternOf.{IsPatternOf};
@@ -120,7 +120,7 @@ impl<'a> BoundTuples<'a> {
     pub fn next(&mut self) -> bool
         ensures next { ComesToNext self.old self.new }
         ensures reads { ReadsSameBound self.old self.new }
-        ensures found { result ≡ true → IsSome self.new.tuple }
+        ensures found { IsTrue result → IsSome self.new.tuple }
         ensures end { result ≡ false → self.new.tuple ≡ None }
     {
         self.matches.next()

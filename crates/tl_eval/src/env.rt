@@ -52,8 +52,8 @@ impl Env {
     }
 
     /// `new` for the evaluations of one task. Where nothing is defined there is nothing to
-    /// remember, and less than a KiB is reserved. An evaluation may take memory to gather tuples, and
-    /// goes on without it where there is none.
+    /// remember, and less than a KiB is reserved. An evaluation may take memory to gather tuples,
+    /// and goes on without it where there is none.
     pub fn for_task(alloc: Global, task: &Task) -> Result<Env, NoMemory>
         ensures slots { IfOk result (λ env. length env ≡ 32) }
         ensures empty { IfOk result (λ env. (q : ℕ) → assignment_in env q ≡ None) }

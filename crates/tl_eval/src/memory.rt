@@ -201,8 +201,8 @@ impl Memory {
         }
     }
 
-    /// The same, where `gathers` says whether evaluations may take memory to gather tuples. It takes
-    /// none.
+    /// The same, where `gathers` says whether evaluations may take memory to gather tuples. It
+    /// takes none.
     pub(crate) fn with_gathering(self, gathers: bool) -> Memory
         ensures { result ≡ self }
     {

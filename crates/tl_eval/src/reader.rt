@@ -1,5 +1,5 @@
 // The tuples of a bound, one after another.
-ghost use Rattle.std.specs.Prelude.{◌≡◌, ◌≤◌, length, true, false, None, Some, IsSome};
+ghost use Rattle.std.specs.Prelude.{◌≡◌, ◌≤◌, length, false, None, Some, IsSome, IsTrue};
 ghost use Rattle.tl_eval.specs.Frames.{assignment_in};
 ghost use Rattle.tl_eval.specs.Reader.{ReadsTuples, ReadsNext, ReadsAsBefore, HasAsMany};
 ghost use Rattle.tl_eval.specs.Reading.{situation_in};
@@ -109,7 +109,7 @@ impl TupleReader {
     pub fn next(&mut self, task: &Task, w: &World, b: &Bound) -> bool
         ensures next { ReadsNext (situation_in task.now w.now) b.now self.old self.new }
         ensures reads { ReadsAsBefore b.now self.old self.new }
-        ensures found { result ≡ true → IsSome self.new.tuple }
+        ensures found { IsTrue result → IsSome self.new.tuple }
         ensures end { result ≡ false → self.new.tuple ≡ None }
     {
         let found = if self.has_pattern {

@@ -12,27 +12,20 @@ use Rattle.tl_terms.specs.ProblemMeaning.{plain_problem}
 use Rattle.tl_terms.specs.Step.{step}
 use Rattle.tl_terms.specs.World.{World}
 use Rattle.tl_eval.specs.Notes.{Tells}
-use Rattle.tl_action.specs.declared.fault.ActFault.{ActFault}
-use Rattle.tl_action.specs.declared.fault.ActFault.TheVariants as act
+use Rattle.tl_eval.specs.declared.fault.EvalFault.{EvalFault}
+use Rattle.tl_eval.specs.declared.fault.EvalFault.TheVariants as eval
 use Rattle.tl_nodes.specs.NodeTrees.{tree_at}
 use Rattle.tl_nodes.specs.Numbers.{trees}
 use Rattle.tl_progress.specs.Sentences.{IsSentence}
-use Rattle.tl_progress.specs.declared.fault.ProgressFault.{ProgressFault}
-use Rattle.tl_progress.specs.declared.fault.ProgressFault.TheVariants as progress
 use Rattle.tl_explain.specs.declared.explanation.Explanation.{Explanation}
 use Rattle.tl_explain.specs.declared.fault.ExplainFault.{ExplainFault}
 use Rattle.tl_explain.specs.declared.fault.ExplainFault.TheVariants as fault
 use Rattle.tl_explain.specs.Explain.{action_line, progressed_in, state_line}
 
--- the fault of an action that comes after so many others
-abbrev pub acting_after : ℕ → ActFault → ExplainFault
-acting_after k (act.Range note) = fault.Range k note
-acting_after k act.NoMemory = fault.NoMemory
-
--- the fault of progression in the state after so many actions
-abbrev pub progressing_after : ℕ → ProgressFault → ExplainFault
-progressing_after k (progress.Range note) = fault.Range k note
-progressing_after k progress.NoMemory = fault.NoMemory
+-- the fault of an action that comes after so many others, or of progression in the state there
+abbrev pub fault_after : ℕ → EvalFault → ExplainFault
+fault_after k (eval.Range note) = fault.Range k note
+fault_after k eval.NoMemory = fault.NoMemory
 
 -- the formula of an explanation
 abbrev pub formula_in : Explanation → FormulaTree

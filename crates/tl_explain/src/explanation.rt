@@ -77,7 +77,7 @@ impl Explanation {
             self.label,
         ) {
             Ok(label) => self.label = label,
-            Err(fault) => return Err(ExplainFault::of_progression(before, fault)),
+            Err(fault) => return Err(ExplainFault::after(before, fault)),
         }
         let line = state_line(self.alloc, &task.problem, &self.nodes, self.label, before)?;
         self.text.extend(line.as_slice())?;
@@ -106,7 +106,7 @@ impl Explanation {
         match apply(&here, &mut self.env, a, steps) {
             Ok(Some(next)) => self.world = next,
             Ok(None) => return Ok(false),
-            Err(fault) => return Err(ExplainFault::of_action(before, fault)),
+            Err(fault) => return Err(ExplainFault::after(before, fault)),
         }
         let action = action_line(self.alloc, &task.problem, a)?;
         self.text.extend(action.as_slice())?;

@@ -1,11 +1,9 @@
 // Why a plan is not explained.
 ghost use Rattle.std.specs.Prelude.{◌≡◌};
-ghost use Rattle.tl_explain.specs.Explanations.{acting_after, progressing_after};
+ghost use Rattle.tl_explain.specs.Explanations.{fault_after};
 
 use std::alloc::AllocError;
-use tl_action::ActFault;
-use tl_eval::RangeNote;
-use tl_progress::ProgressFault;
+use tl_eval::{EvalFault, RangeNote};
 use tl_syntax::NoMemory;
 
 /// Why a plan is not explained.
@@ -24,23 +22,14 @@ pub enum ExplainFault {
 }
 
 impl ExplainFault {
-    /// For an action that comes after so many others. It takes no memory.
-    pub(crate) fn of_action(after: u32, fault: ActFault) -> ExplainFault
-        ensures { result ≡ acting_after after fault }
+    /// For an action that comes after so many others, or for progression in the state there. It
+    /// takes no memory.
+    pub(crate) fn after(after: u32, fault: EvalFault) -> ExplainFault
+        ensures { result ≡ fault_after after fault }
     {
         match fault {
-            ActFault::Range(note) => ExplainFault::Range { after, note },
-            ActFault::NoMemory => ExplainFault::NoMemory,
-        }
-    }
-
-    /// For progression in the state after so many actions. It takes no memory.
-    pub(crate) fn of_progression(after: u32, fault: ProgressFault) -> ExplainFault
-        ensures { result ≡ progressing_after after fault }
-    {
-        match fault {
-            ProgressFault::Range(note) => ExplainFault::Range { after, note },
-            ProgressFault::NoMemory => ExplainFault::NoMemory,
+            EvalFault::Range(note) => ExplainFault::Range { after, note },
+            EvalFault::NoMemory => ExplainFault::NoMemory,
         }
     }
 }

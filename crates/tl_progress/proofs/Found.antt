@@ -10,10 +10,11 @@ use Rattle.tl_terms.specs.World.{World}
 use Rattle.tl_syntax.specs.Assignment.{Assignment}
 use Rattle.tl_nodes.specs.Joins.{join_node}
 use Rattle.tl_nodes.specs.NodeTrees.{tree_at, tree_of_node}
-use Rattle.tl_progress.specs.declared.fault.ProgressFault.{ProgressFault}
-use Rattle.tl_progress.specs.declared.fault.ProgressFault.TheVariants as fault
+use Rattle.tl_eval.specs.declared.fault.EvalFault.{EvalFault}
+use Rattle.tl_eval.specs.declared.fault.EvalFault.TheVariants as fault
 use Rattle.tl_progress.specs.Sentences.{FitsSomewhere}
-use Rattle.tl_progress.specs.Answers.{IsCausedBy, looked_idly, looked_for_residual}
+use Rattle.tl_eval.specs.Faults.{IsCausedBy}
+use Rattle.tl_progress.specs.Answers.{looked_idly, looked_for_residual}
 use Rattle.tl_progress.specs.Parts.{IsBelow}
 use Rattle.tl_terms.specs.Definitions.{situation_of}
 use Rattle.tl_terms.specs.Looked.{looks_of}
@@ -39,28 +40,28 @@ last-of P xs rest x e h = let k = (Each-append P rest (x ∷ [])).0 (subst (Each
 pub fits-below : (n : Bool) (ts : List FormulaTree) (g : Signature) (id at : ℕ) → IsBelow n ts id at → FitsSomewhere g (tree_at ts id) → FitsSomewhere g (tree_at ts at)
 fits-below n ts g id at b h = record { around = h.around; fits = b.fits g h.around h.fits }
 
-caused-up : (a b : List Operation) → ((o : Operation) → Among o a → Among o b) → (x : ProgressFault) → IsCausedBy a x → IsCausedBy b x
+caused-up : (a b : List Operation) → ((o : Operation) → Among o a → Among o b) → (x : EvalFault) → IsCausedBy a x → IsCausedBy b x
 caused-up a b k (fault.Range m) h = (k _ h.0, h.1)
 caused-up a b k fault.NoMemory h = tt
 
-caused-in : {A : Type 0} (a b : List Operation) → ((o : Operation) → Among o a → Among o b) → (r : Result A ProgressFault) → IfErr r (IsCausedBy a) → IfErr r (IsCausedBy b)
+caused-in : {A : Type 0} (a b : List Operation) → ((o : Operation) → Among o a → Among o b) → (r : Result A EvalFault) → IfErr r (IsCausedBy a) → IfErr r (IsCausedBy b)
 caused-in a b k (Ok x) h = tt
 caused-in a b k (Err x) h = caused-up a b k x h
 
 -- the fault that a call hands on
-pub handed-on : {A : Type 0} (looked : List Operation) (r : Result A ProgressFault) (x : ProgressFault) → IsErrAnd r (λ y. y ≡ x) → IsCausedBy looked x → IfErr r (IsCausedBy looked)
+pub handed-on : {A : Type 0} (looked : List Operation) (r : Result A EvalFault) (x : EvalFault) → IsErrAnd r (λ y. y ≡ x) → IsCausedBy looked x → IfErr r (IsCausedBy looked)
 handed-on looked (Ok a) x same h = absurd same
 handed-on looked (Err y) x same h = subst (IsCausedBy looked) (sym same) h
 
 module _ (p : PlainProblem) (w : World) (e : Assignment) (ts : List FormulaTree) where
-  pub truth-caused : {A : Type 0} (id at : ℕ) → IsBelow true ts id at → (r : Result A ProgressFault) → IfErr r (IsCausedBy (looked_idly p w e (tree_at ts at))) → IfErr r (IsCausedBy (looked_idly p w e (tree_at ts id)))
+  pub truth-caused : {A : Type 0} (id at : ℕ) → IsBelow true ts id at → (r : Result A EvalFault) → IfErr r (IsCausedBy (looked_idly p w e (tree_at ts at))) → IfErr r (IsCausedBy (looked_idly p w e (tree_at ts id)))
   truth-caused id at b r h = caused-in _ _ (λ o k. b.looked (looks_of p w) (situation_of p w ∷ []) (situation_of p w) e o k) r h
 
-  pub truth-fault : (id at : ℕ) → IsBelow true ts id at → (x : ProgressFault) → IsCausedBy (looked_idly p w e (tree_at ts at)) x → IsCausedBy (looked_idly p w e (tree_at ts id)) x
+  pub truth-fault : (id at : ℕ) → IsBelow true ts id at → (x : EvalFault) → IsCausedBy (looked_idly p w e (tree_at ts at)) x → IsCausedBy (looked_idly p w e (tree_at ts id)) x
   truth-fault id at b x h = caused-up _ _ (λ o k. b.looked (looks_of p w) (situation_of p w ∷ []) (situation_of p w) e o k) x h
 
-  pub residual-fault : (id at : ℕ) → IsBelow false ts id at → (x : ProgressFault) → IsCausedBy (looked_for_residual p w e (tree_at ts at)) x → IsCausedBy (looked_for_residual p w e (tree_at ts id)) x
+  pub residual-fault : (id at : ℕ) → IsBelow false ts id at → (x : EvalFault) → IsCausedBy (looked_for_residual p w e (tree_at ts at)) x → IsCausedBy (looked_for_residual p w e (tree_at ts id)) x
   residual-fault id at b x h = caused-up _ _ (λ o k. b.looked (looks_of p w) (situation_of p w ∷ []) (situation_of p w) e o k) x h
 
-  pub join-caused : (junction : Junction) (ids : List ℕ) (q : ℕ) → Among q ids → (x : ProgressFault) → IsCausedBy (looked_idly p w e (tree_at ts q)) x → IsCausedBy (looked_idly p w e (tree_of_node ts (join_node junction ids))) x
+  pub join-caused : (junction : Junction) (ids : List ℕ) (q : ℕ) → Among q ids → (x : EvalFault) → IsCausedBy (looked_idly p w e (tree_at ts q)) x → IsCausedBy (looked_idly p w e (tree_of_node ts (join_node junction ids))) x
   join-caused junction ids q m x h = caused-up _ _ (λ o k. part-looked true ts junction ids q m (looks_of p w) (situation_of p w ∷ []) (situation_of p w) e o k) x h

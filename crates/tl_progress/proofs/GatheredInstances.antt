@@ -17,9 +17,10 @@ use Rattle.tl_terms.specs.Progression.{constant}
 use Rattle.tl_terms.specs.Situation.{Situation}
 use Rattle.tl_terms.specs.World.{World}
 use Rattle.tl_world.specs.MatchReading.{Reading}
-use Rattle.tl_progress.specs.declared.fault.ProgressFault.{ProgressFault}
+use Rattle.tl_eval.specs.declared.fault.EvalFault.{EvalFault}
 use Rattle.tl_progress.specs.declared.quantifier.Quantifier.{Quantifier}
-use Rattle.tl_progress.specs.Answers.{IsCausedBy, looked_for_residual, residual}
+use Rattle.tl_eval.specs.Faults.{IsCausedBy}
+use Rattle.tl_progress.specs.Answers.{looked_for_residual, residual}
 use Rattle.tl_progress.specs.Quantifiers.{HasStepped, Stands, bound_in, node_bound, node_vars, quantified_in, vars_in}
 use Rattle.tl_progress.proofs.Gathering.{Gathered, below-still, gather-on, gather-decided, gather-end}
 use Rattle.tl_progress.proofs.Instances.{left_after}
@@ -35,7 +36,7 @@ module _ (p : PlainProblem) (w : World) (e : Assignment) (ss : List Var) (b : Bo
       gather-end junction us ids (next_after p w e ss b f before) (next_of_all p w e ss b f) was (ap (map (instance_next p w e ss b f)) none) ∙ quantified-next p w e ss b f junction
 
   module _ (before after : Option (List Value)) (new : List (Option Value)) (come : HasCome p w e ss b f before after new) (g : FormulaTree) (same : g ≡ f) where
-    pub instance-caused : (x : ProgressFault) → IsCausedBy (looked_for_residual p w (assignment_in new) g) x → IsCausedBy (looked_for_residual p w e (quantified junction ss b f)) x
+    pub instance-caused : (x : EvalFault) → IsCausedBy (looked_for_residual p w (assignment_in new) g) x → IsCausedBy (looked_for_residual p w e (quantified junction ss b f)) x
     instance-caused x h =
         next-caused p w e ss b f junction come.tuple x come.among
         (subst (λ (h : FormulaTree). IsCausedBy (looked_for_residual p w (bind ss come.tuple e) h) x) same (subst (λ (d : Assignment). IsCausedBy (looked_for_residual p w d g) x) come.here h))

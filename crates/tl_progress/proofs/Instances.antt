@@ -27,10 +27,11 @@ use Rattle.tl_match.specs.Next.{IsNext}
 use Rattle.tl_eval.proofs.ArityLaws.{declared-few}
 use Rattle.tl_eval.proofs.PatternLaws.{few-variables, bound-few}
 use Rattle.tl_eval.proofs.TupleRest.{rest_after, later, all-after-none, rest-none, rest-some}
-use Rattle.tl_progress.specs.declared.fault.ProgressFault.{ProgressFault}
-use Rattle.tl_progress.specs.declared.fault.ProgressFault.TheVariants as fault
+use Rattle.tl_eval.specs.declared.fault.EvalFault.{EvalFault}
+use Rattle.tl_eval.specs.declared.fault.EvalFault.TheVariants as fault
 use Rattle.tl_progress.specs.Sentences.{FitsSomewhere}
-use Rattle.tl_progress.specs.Answers.{IsCausedBy, decided, looked_idly, idly_true}
+use Rattle.tl_eval.specs.Faults.{IsCausedBy}
+use Rattle.tl_progress.specs.Answers.{decided, looked_idly, idly_true}
 use Rattle.tl_progress.proofs.Decided.{decided-on, decided-here, decided-end}
 
 -- a quantifier that fits
@@ -124,6 +125,6 @@ module _ (p : PlainProblem) (w : World) (e : Assignment) (ss : List Var) (b : Bo
       pub open-here : (junction : Junction) (stop x : Bool) → stop ≡ deciding_truth junction → Open stop after → x ≡ instance_idle t → beq x stop ≡ true → stop ≡ idly_true p w e (quantified junction ss b f)
       open-here junction stop x is was e k = sym (quantified-idle junction stop is ∙ was ∙ ap (decided stop instance_idle) one-more ∙ decided-here instance_idle t (left_after (Some t)) stop x e k)
 
-      pub caused : (junction : Junction) (x : ProgressFault) → IsCausedBy (looked_idly p w (bind ss t e) f) x → IsCausedBy (looked_idly p w e (quantified junction ss b f)) x
+      pub caused : (junction : Junction) (x : EvalFault) → IsCausedBy (looked_idly p w (bind ss t e) f) x → IsCausedBy (looked_idly p w e (quantified junction ss b f)) x
       caused junction (fault.Range m) h = (quantified-looked junction true (looks_of p w) t _ is-tuple h.0, h.1)
       caused junction fault.NoMemory h = tt

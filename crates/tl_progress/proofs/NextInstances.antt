@@ -15,9 +15,10 @@ use Rattle.tl_terms.specs.Problem.{PlainProblem}
 use Rattle.tl_terms.specs.Progression.{progressed}
 use Rattle.tl_terms.specs.World.{World}
 use Rattle.tl_eval.proofs.TupleRest.{all-after-none}
-use Rattle.tl_progress.specs.declared.fault.ProgressFault.{ProgressFault}
-use Rattle.tl_progress.specs.declared.fault.ProgressFault.TheVariants as fault
-use Rattle.tl_progress.specs.Answers.{IsCausedBy, looked_for_residual, residual}
+use Rattle.tl_eval.specs.declared.fault.EvalFault.{EvalFault}
+use Rattle.tl_eval.specs.declared.fault.EvalFault.TheVariants as fault
+use Rattle.tl_eval.specs.Faults.{IsCausedBy}
+use Rattle.tl_progress.specs.Answers.{looked_for_residual, residual}
 use Rattle.tl_progress.proofs.Instances.{all_tuples, left_after, quantified-looked}
 use Rattle.tl_progress.proofs.Gathering.{Gathered, gather-begun}
 
@@ -41,6 +42,6 @@ module _ (p : PlainProblem) (w : World) (e : Assignment) (ss : List Var) (b : Bo
   quantified-next All = refl
   quantified-next Any = refl
 
-  pub next-caused : (junction : Junction) (t : List Value) (x : ProgressFault) → Among t (all_tuples p w e ss b f) → IsCausedBy (looked_for_residual p w (bind ss t e) f) x → IsCausedBy (looked_for_residual p w e (quantified junction ss b f)) x
+  pub next-caused : (junction : Junction) (t : List Value) (x : EvalFault) → Among t (all_tuples p w e ss b f) → IsCausedBy (looked_for_residual p w (bind ss t e) f) x → IsCausedBy (looked_for_residual p w e (quantified junction ss b f)) x
   next-caused junction t (fault.Range m) is h = (quantified-looked p w e ss b f junction false (looks_of p w) t _ is h.0, h.1)
   next-caused junction t fault.NoMemory is h = tt

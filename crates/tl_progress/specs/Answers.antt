@@ -1,9 +1,6 @@
 -- What the calls answer.
 use Rattle.std.specs.Prelude.{List, [], ◌∷◌, Bool, true, false}
 use Rattle.std.specs.List.{list_any, list_all}
-use Rattle.tl_eval.specs.Notes.{Tells}
-use Rattle.tl_progress.specs.declared.fault.ProgressFault.{ProgressFault}
-use Rattle.tl_progress.specs.declared.fault.ProgressFault.TheVariants as fault
 use Rattle.tl_syntax.specs.Assignment.{Assignment}
 use Rattle.tl_syntax.specs.Trees.{FormulaTree}
 use Rattle.tl_terms.specs.Definitions.{situation_of}
@@ -13,11 +10,6 @@ use Rattle.tl_terms.specs.Operations.{Operation}
 use Rattle.tl_terms.specs.Problem.{PlainProblem}
 use Rattle.tl_terms.specs.Progression.{progressed}
 use Rattle.tl_terms.specs.World.{World}
-
--- the note is of one of the operations, which is past range; want of memory has no cause
-abbrev pub IsCausedBy : List Operation → ProgressFault → Type 0
-IsCausedBy looked (fault.Range note) = Tells looked note
-IsCausedBy looked fault.NoMemory = Unit {0}
 
 -- truth under the assignment where the world is repeated for ever
 abbrev pub idly_true : PlainProblem → World → Assignment → FormulaTree → Bool

@@ -6,11 +6,12 @@ use Rattle.tl_nodes.specs.declared.nodes.Nodes.{Nodes}
 use Rattle.tl_nodes.specs.Joins.{join_node, simplified_join}
 use Rattle.tl_nodes.specs.NodeTrees.{tree_at, trees_at, tree_of_node}
 use Rattle.tl_nodes.specs.Numbers.{trees, Denotes}
-use Rattle.tl_progress.specs.declared.fault.ProgressFault.{ProgressFault}
+use Rattle.tl_eval.specs.declared.fault.EvalFault.{EvalFault}
 use Rattle.tl_progress.specs.declared.joined.Joined.{Joined}
 use Rattle.tl_progress.specs.declared.known.WorkedOut.{WorkedOut}
 use Rattle.tl_progress.specs.declared.residuals.Residuals.{Residuals}
-use Rattle.tl_progress.specs.Answers.{IsCausedBy, idly_true, looked_idly, residual, looked_for_residual}
+use Rattle.tl_eval.specs.Faults.{IsCausedBy}
+use Rattle.tl_progress.specs.Answers.{idly_true, looked_idly, residual, looked_for_residual}
 use Rattle.tl_progress.specs.KeptResiduals.{AreOpen, found_in}
 use Rattle.tl_progress.specs.Known.{AreTruths, AreResiduals, IsRightlyKnown}
 use Rattle.tl_progress.specs.Sentences.{IsSentence, FitsSomewhere}
@@ -153,13 +154,13 @@ abbrev pub AddsNoTree : Nodes → Nodes → Type 0
 AddsNoTree old new = trees new ≡ trees old
 
 -- it is the number of a number's sentence progressed through the world
-abbrev pub IsProgressed : Task → World → Nodes → ℕ → Nodes → Result ℕ ProgressFault → Type 0
+abbrev pub IsProgressed : Task → World → Nodes → ℕ → Nodes → Result ℕ EvalFault → Type 0
 IsProgressed task w old i new result = IfOk result (λ n. Denotes new n (progressed_at task w old i))
 
 -- or a fault of what is looked at for it
-abbrev pub IsProgressFault : Task → World → Nodes → ℕ → Result ℕ ProgressFault → Type 0
+abbrev pub IsProgressFault : Task → World → Nodes → ℕ → Result ℕ EvalFault → Type 0
 IsProgressFault task w nodes i result = IfErr result (IsCausedBy (looked_by_progressing_at task w nodes i))
 
 -- a number that is answered is such a progression
-abbrev pub GivesProgression : Task → World → Nodes → ℕ → Nodes → Result ℕ ProgressFault → Type 0
+abbrev pub GivesProgression : Task → World → Nodes → ℕ → Nodes → Result ℕ EvalFault → Type 0
 GivesProgression task w old i new result = IfOk result (λ n. IsProgression task w old i new n)

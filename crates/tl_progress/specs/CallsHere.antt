@@ -10,7 +10,7 @@ use Rattle.tl_eval.specs.Remembered.{Remembered}
 use Rattle.tl_eval.specs.StateTruth.{Remembers}
 use Rattle.tl_nodes.specs.declared.nodes.Nodes.{Nodes}
 use Rattle.tl_nodes.specs.Numbers.{Denotes}
-use Rattle.tl_progress.specs.declared.fault.ProgressFault.{ProgressFault}
+use Rattle.tl_eval.specs.declared.fault.EvalFault.{EvalFault}
 use Rattle.tl_progress.specs.declared.here.Here.{Here}
 use Rattle.tl_progress.specs.declared.joined.Joined.{Joined}
 use Rattle.tl_progress.specs.declared.joined.OpenParts.{OpenParts}
@@ -19,7 +19,7 @@ use Rattle.tl_progress.specs.declared.layers.Join.{Join}
 use Rattle.tl_progress.specs.declared.layers.Quantified.{Quantified}
 use Rattle.tl_progress.specs.declared.quantifier.Quantifier.{Quantifier}
 use Rattle.tl_progress.specs.declared.residuals.Residuals.{Residuals}
-use Rattle.tl_progress.specs.Answers.{IsCausedBy}
+use Rattle.tl_eval.specs.Faults.{IsCausedBy}
 use Rattle.tl_progress.specs.Calls.{IsDecided, AreOpenIn, KeepsRightly, join_of_residuals, FitsTask, IsSentenceIn, AreTruthsIn, AreResidualsIn, IsRightIn, state_true_in, looked_in_world, idly_true_at, looked_idly_at, join_at, idly_true_join, looked_idly_join, quantified_at, idly_true_over, looked_idly_over, residual_at, looked_for_residual_at}
 use Rattle.tl_progress.specs.Quantifiers.{ReadsAt}
 use Rattle.tl_syntax.specs.declared.value.Value.{Value}
@@ -75,35 +75,35 @@ abbrev pub tree_of_quantified : Nodes → Quantified → FormulaTree
 tree_of_quantified nodes q = quantified_at nodes q.junction q.vars.now q.bound.now q.part
 
 -- it is the truth of a formula without temporal words, under the values of the frame
-abbrev pub IsStateTruth : Here → List (Option Value) → FormulaTree → Result Bool ProgressFault → Type 0
+abbrev pub IsStateTruth : Here → List (Option Value) → FormulaTree → Result Bool EvalFault → Type 0
 IsStateTruth here frame f result = IfOk result (λ b. b ≡ state_true_in here.task.now here.world.now frame f)
 
 -- or a fault of what is looked at for it
-abbrev pub IsStateFault : Here → List (Option Value) → FormulaTree → Result Bool ProgressFault → Type 0
+abbrev pub IsStateFault : Here → List (Option Value) → FormulaTree → Result Bool EvalFault → Type 0
 IsStateFault here frame f result = IfErr result (IsCausedBy (looked_in_world here.task.now here.world.now frame f))
 
 -- it is the truth of a number's tree where the world is repeated for ever
-abbrev pub IsTruthAt : Here → List (Option Value) → Nodes → ℕ → Result Bool ProgressFault → Type 0
+abbrev pub IsTruthAt : Here → List (Option Value) → Nodes → ℕ → Result Bool EvalFault → Type 0
 IsTruthAt here frame nodes i result = IfOk result (λ b. b ≡ idly_true_at here.task.now here.world.now frame nodes i)
 
 -- or a fault of what is looked at for it
-abbrev pub IsTruthFault : Here → List (Option Value) → Nodes → ℕ → Result Bool ProgressFault → Type 0
+abbrev pub IsTruthFault : Here → List (Option Value) → Nodes → ℕ → Result Bool EvalFault → Type 0
 IsTruthFault here frame nodes i result = IfErr result (IsCausedBy (looked_idly_at here.task.now here.world.now frame nodes i))
 
 -- it is the truth of a join
-abbrev pub IsJoinTruth : Here → List (Option Value) → Nodes → Join → Result Bool ProgressFault → Type 0
+abbrev pub IsJoinTruth : Here → List (Option Value) → Nodes → Join → Result Bool EvalFault → Type 0
 IsJoinTruth here frame nodes join result = IfOk result (λ b. b ≡ idly_true_join here.task.now here.world.now frame nodes join.junction join.parts.now)
 
 -- or a fault of what is looked at for it
-abbrev pub IsJoinFault : Here → List (Option Value) → Nodes → Join → Result Bool ProgressFault → Type 0
+abbrev pub IsJoinFault : Here → List (Option Value) → Nodes → Join → Result Bool EvalFault → Type 0
 IsJoinFault here frame nodes join result = IfErr result (IsCausedBy (looked_idly_join here.task.now here.world.now frame nodes join.junction join.parts.now))
 
 -- it is the truth of a quantified formula
-abbrev pub IsQuantifiedTruth : Here → List (Option Value) → Nodes → Quantified → Result Bool ProgressFault → Type 0
+abbrev pub IsQuantifiedTruth : Here → List (Option Value) → Nodes → Quantified → Result Bool EvalFault → Type 0
 IsQuantifiedTruth here frame nodes q result = IfOk result (λ b. b ≡ idly_true_over here.task.now here.world.now frame nodes q.junction q.vars.now q.bound.now q.part)
 
 -- or a fault of what is looked at for it
-abbrev pub IsQuantifiedFault : Here → List (Option Value) → Nodes → Quantified → Result Bool ProgressFault → Type 0
+abbrev pub IsQuantifiedFault : Here → List (Option Value) → Nodes → Quantified → Result Bool EvalFault → Type 0
 IsQuantifiedFault here frame nodes q result = IfErr result (IsCausedBy (looked_idly_over here.task.now here.world.now frame nodes q.junction q.vars.now q.bound.now q.part))
 
 -- the tuples are those of a quantified formula, under the values of the frame
@@ -115,29 +115,29 @@ abbrev pub ReadsInstances : Here → Nodes → Quantifier → List (Option Value
 ReadsInstances here nodes q frame r = ReadsAt here.task.now here.world.now nodes q frame r
 
 -- what has to hold next for a number's tree is the constant of this truth
-abbrev pub IsNextConstant : Here → List (Option Value) → Nodes → ℕ → Result Bool ProgressFault → Type 0
+abbrev pub IsNextConstant : Here → List (Option Value) → Nodes → ℕ → Result Bool EvalFault → Type 0
 IsNextConstant here frame nodes i result = IfOk result (λ b. residual_at here.task.now here.world.now frame nodes i ≡ constant b)
 
 -- it is the number of what has to hold next for a number's tree
-abbrev pub IsResidual : Here → List (Option Value) → Nodes → ℕ → Nodes → Result ℕ ProgressFault → Type 0
+abbrev pub IsResidual : Here → List (Option Value) → Nodes → ℕ → Nodes → Result ℕ EvalFault → Type 0
 IsResidual here frame old i new result = IfOk result (λ n. Denotes new n (residual_at here.task.now here.world.now frame old i))
 
 -- or a fault of what is looked at for it
-abbrev pub IsResidualFault : {A : Type 0} → Here → List (Option Value) → Nodes → ℕ → Result A ProgressFault → Type 0
+abbrev pub IsResidualFault : {A : Type 0} → Here → List (Option Value) → Nodes → ℕ → Result A EvalFault → Type 0
 IsResidualFault here frame nodes i result = IfErr result (IsCausedBy (looked_for_residual_at here.task.now here.world.now frame nodes i))
 
 -- it is that number, where one was found
-abbrev pub IsEarlyResidual : Here → List (Option Value) → Nodes → ℕ → Result (Option ℕ) ProgressFault → Type 0
+abbrev pub IsEarlyResidual : Here → List (Option Value) → Nodes → ℕ → Result (Option ℕ) EvalFault → Type 0
 IsEarlyResidual here frame nodes i result = IfOk result (λ o. IfSome o (λ n. Denotes nodes n (residual_at here.task.now here.world.now frame nodes i)))
 
 -- none is left where a part decides the join
-abbrev pub IsDecidedEarly : Here → List (Option Value) → Nodes → Joined → Result (Option (List ℕ)) ProgressFault → Type 0
+abbrev pub IsDecidedEarly : Here → List (Option Value) → Nodes → Joined → Result (Option (List ℕ)) EvalFault → Type 0
 IsDecidedEarly here frame nodes joined result = IfOk result (λ o. IfNone o (IsDecided here.task.now here.world.now frame nodes joined))
 
 -- else these are the parts with temporal words
-abbrev pub AreOpenParts : Here → List (Option Value) → Nodes → Joined → Result (Option (List ℕ)) ProgressFault → Type 0
+abbrev pub AreOpenParts : Here → List (Option Value) → Nodes → Joined → Result (Option (List ℕ)) EvalFault → Type 0
 AreOpenParts here frame nodes joined result = IfOk result (λ o. IfSome o (λ ids. AreOpenIn here.task.now here.world.now frame nodes joined ids))
 
 -- it is the number of the join of what has to hold next for the parts
-abbrev pub IsOpenResidual : Here → List (Option Value) → Nodes → OpenParts → Nodes → Result ℕ ProgressFault → Type 0
+abbrev pub IsOpenResidual : Here → List (Option Value) → Nodes → OpenParts → Nodes → Result ℕ EvalFault → Type 0
 IsOpenResidual here frame old o new result = IfOk result (λ n. Denotes new n (join_of_residuals here.task.now here.world.now frame old o.joined o.parts.now))

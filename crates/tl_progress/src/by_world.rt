@@ -58,7 +58,8 @@ impl ByWorld {
         }
     }
 
-    /// Whether so many numbers of this world are kept that no more are, as long as it is the newest.
+    /// Whether so many numbers of this world are kept that no more are, as long as it is the
+    /// newest.
     pub fn has_most_of(&self, world: usize) -> bool {
         world == self.newest && MOST < self.table.len().saturating_sub(self.begins)
     }

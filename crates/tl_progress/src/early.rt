@@ -4,14 +4,13 @@ ghost use Rattle.tl_nodes.specs.Numbers.{trees, tree_in};
 ghost use Rattle.tl_progress.specs.CallsHere.{FitsHere, KnowsTruths, RemembersHere, IsResidualFault, IsEarlyResidual};
 ghost use Rattle.tl_progress.specs.Parts.{IsJoin};
 
-use crate::ProgressFault;
 use crate::here::Here;
 use crate::joins::decides;
 use crate::layers::JoinAt;
 use crate::order::is_plain;
 use crate::parts::{part_at, part_count};
 use crate::residual::state_residual;
-use tl_eval::{Env, Memory};
+use tl_eval::{Env, EvalFault, Memory};
 use tl_nodes::{Node, Nodes};
 use tl_syntax::Junction;
 
@@ -23,7 +22,7 @@ fn early_join(
     env: &mut Env,
     memory: &mut Memory,
     whole: JoinAt,
-) -> Result<Option<usize>, ProgressFault>
+) -> Result<Option<usize>, EvalFault>
     requires at { whole.at < length (trees nodes.now) }
     requires join { IsJoin whole.junction (tree_in nodes.now whole.at) }
     requires fits { FitsHere here.now (tree_in nodes.now whole.at) }
@@ -59,7 +58,7 @@ pub(crate) fn early_residual(
     env: &mut Env,
     memory: &mut Memory,
     at: usize,
-) -> Result<Option<usize>, ProgressFault>
+) -> Result<Option<usize>, EvalFault>
     requires at { at < length (trees nodes.now) }
     requires fits { FitsHere here.now (tree_in nodes.now at) }
     requires known { KnowsTruths here.now nodes.now }

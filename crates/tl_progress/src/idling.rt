@@ -1,18 +1,17 @@
 // The idling check.
 ghost use Rattle.std.specs.Prelude.{◌≡◌, ◌↔◌, ◌<◌, length, IsTrue, IfOk, IfErr};
 ghost use Rattle.tl_nodes.specs.Numbers.{trees, tree_in};
-ghost use Rattle.tl_progress.specs.Answers.{IsCausedBy};
+ghost use Rattle.tl_eval.specs.Faults.{IsCausedBy};
 ghost use Rattle.tl_progress.specs.Calls.{IsSentenceIn, HoldsIdly, looked_by_idling_at};
 ghost use Rattle.tl_progress.specs.CallsHere.{IsSentenceHere, RemembersHere, IsTruthAt, IsTruthFault};
 
-use crate::ProgressFault;
 use crate::frames::empty_frame;
 use crate::here::Here;
 use crate::known::WorkedOut;
 use crate::order::reached;
 use crate::truth::truth_of;
 use std::alloc::Global;
-use tl_eval::{Env, Memory};
+use tl_eval::{Env, EvalFault, Memory};
 use tl_nodes::Nodes;
 use tl_world::{Task, World};
 
@@ -24,7 +23,7 @@ pub(crate) fn sentence_truth(
     env: &mut Env,
     memory: &mut Memory,
     id: usize,
-) -> Result<bool, ProgressFault>
+) -> Result<bool, EvalFault>
     requires id { id < length (trees nodes.now) }
     requires sentence { IsSentenceHere here.now (tree_in nodes.now id) }
     requires remembers { RemembersHere here.now memory.old }
@@ -70,7 +69,7 @@ pub fn idle(
     w: &World,
     env: &mut Env,
     id: usize,
-) -> Result<bool, ProgressFault>
+) -> Result<bool, EvalFault>
     requires id { id < length (trees nodes.now) }
     requires sentence { IsSentenceIn task.now (tree_in nodes.now id) }
     ensures truth { IfOk result (λ b. IsTrue b ↔ HoldsIdly task.now w.now (tree_in nodes.now id)) }

@@ -10,7 +10,6 @@ ghost use Rattle.tl_progress.specs.Parts.{IsBelow, IsJoin};
 ghost use Rattle.tl_syntax.specs.Lists.{Each};
 ghost use Rattle.tl_syntax.specs.StateFormulas.{IsState};
 
-use crate::ProgressFault;
 use crate::here::Here;
 use crate::idling::sentence_truth;
 use crate::joins::{constant_number, decides, gather, join};
@@ -20,7 +19,7 @@ use crate::parts::{part_at, part_count};
 use crate::progression::temporal_residual;
 use crate::residuals::{Incoming, Residuals};
 use crate::truth::{basic_truth, truth_of};
-use tl_eval::{Env, Memory};
+use tl_eval::{Env, EvalFault, Memory};
 use tl_nodes::{Node, Nodes};
 use tl_syntax::Junction;
 
@@ -52,7 +51,7 @@ fn state_part(
     env: &mut Env,
     memory: &mut Memory,
     part: usize,
-) -> Result<bool, ProgressFault>
+) -> Result<bool, EvalFault>
     requires part { part < length (trees nodes.now) }
     requires sentence { IsSentenceHere here.now (tree_in nodes.now part) }
     requires state { IsState (tree_in nodes.now part) }
@@ -81,7 +80,7 @@ fn remembering_open_parts(
     env: &mut Env,
     memory: &mut Memory,
     joined: Joined,
-) -> Result<Option<Numbers>, ProgressFault>
+) -> Result<Option<Numbers>, EvalFault>
     requires at { joined.at < length (trees nodes.now) }
     requires join { IsJoin joined.junction (tree_in nodes.now joined.at) }
     requires sentence { IsSentenceHere here.now (tree_in nodes.now joined.at) }
@@ -119,7 +118,7 @@ fn open_parts(
     nodes: &Nodes,
     env: &mut Env,
     joined: Joined,
-) -> Result<Option<Numbers>, ProgressFault>
+) -> Result<Option<Numbers>, EvalFault>
     requires at { joined.at < length (trees nodes.now) }
     requires join { IsJoin joined.junction (tree_in nodes.now joined.at) }
     requires sentence { IsSentenceHere here.now (tree_in nodes.now joined.at) }
@@ -148,7 +147,7 @@ pub(crate) fn kept_residual(
     env: &mut Env,
     residuals: &mut Residuals,
     incoming: Incoming,
-) -> Result<usize, ProgressFault>
+) -> Result<usize, EvalFault>
     requires at { incoming.formula < length (trees nodes.old) }
     requires sentence { IsSentenceHere here.now (tree_in nodes.old incoming.formula) }
     requires found { KeepsRightlyHere here.now nodes.old residuals.old incoming.world }
@@ -168,7 +167,7 @@ pub(crate) fn kept_residual(
                 }
                 match residuals.keep(incoming, number) {
                     Ok(()) => Ok(number),
-                    Err(_) => Err(ProgressFault::NoMemory),
+                    Err(_) => Err(EvalFault::NoMemory),
                 }
             }
             Err(fault) => Err(fault),
@@ -183,7 +182,7 @@ fn parts_residual(
     env: &mut Env,
     residuals: &mut Residuals,
     rest: &OpenParts,
-) -> Result<usize, ProgressFault>
+) -> Result<usize, EvalFault>
     requires at { rest.now.joined.at < length (trees nodes.old) }
     requires sentence { IsSentenceHere here.now (tree_in nodes.old rest.now.joined.at) }
     requires below { Each (IsBelow false (trees nodes.old) rest.now.joined.at) rest.now.parts.now }
@@ -222,7 +221,7 @@ pub(crate) fn joined_residual(
     env: &mut Env,
     residuals: &mut Residuals,
     joined: Joined,
-) -> Result<usize, ProgressFault>
+) -> Result<usize, EvalFault>
     requires at { joined.at < length (trees nodes.old) }
     requires join { IsJoin joined.junction (tree_in nodes.old joined.at) }
     requires sentence { IsSentenceHere here.now (tree_in nodes.old joined.at) }

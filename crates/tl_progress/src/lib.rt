@@ -6,7 +6,6 @@ mod broken;
 mod by_world;
 mod changed;
 mod early;
-mod fault;
 mod few_bindings;
 mod frames;
 mod here;
@@ -29,7 +28,6 @@ mod substitution;
 mod truth;
 
 pub use broken::is_broken_by;
-pub use fault::ProgressFault;
 pub use idling::idle;
 pub use part_places::PartPlaces;
 pub use progression::{progress, progress_kept};

@@ -7,7 +7,6 @@ ghost use Rattle.tl_progress.specs.CallsHere.{IsSentenceHere, AreRightHere, Know
 ghost use Rattle.tl_progress.specs.KeptResiduals.{StaysElsewhere};
 ghost use Rattle.tl_syntax.specs.StateFormulas.{IsState};
 
-use crate::ProgressFault;
 use crate::early::early_residual;
 use crate::frames::{empty_frame, is_empty_frame};
 use crate::here::Here;
@@ -20,7 +19,7 @@ use crate::residual::residual_of;
 use crate::residuals::{Incoming, Residuals};
 use crate::truth::truth_of;
 use std::alloc::Global;
-use tl_eval::{Env, Memory};
+use tl_eval::{Env, EvalFault, Memory};
 use tl_nodes::{Node, Nodes};
 use tl_syntax::Junction;
 use tl_world::{Task, World};
@@ -34,7 +33,7 @@ fn work_out(
     memory: &mut Memory,
     known: &mut WorkedOut,
     at: usize,
-) -> Result<(), ProgressFault>
+) -> Result<(), EvalFault>
     requires at { at < length (trees nodes.old) }
     requires sentence { IsSentenceHere here.now (tree_in nodes.old at) }
     requires known { AreRightHere here.now nodes.old known.old }
@@ -79,7 +78,7 @@ fn ordered_residual(
     env: &mut Env,
     memory: &mut Memory,
     id: usize,
-) -> Result<usize, ProgressFault>
+) -> Result<usize, EvalFault>
     requires id { id < length (trees nodes.old) }
     requires sentence { IsSentenceHere here.now (tree_in nodes.old id) }
     requires remembers { RemembersHere here.now memory.old }
@@ -116,7 +115,7 @@ fn remembering_residual(
     env: &mut Env,
     memory: &mut Memory,
     id: usize,
-) -> Result<usize, ProgressFault>
+) -> Result<usize, EvalFault>
     requires id { id < length (trees nodes.old) }
     requires sentence { IsSentenceHere here.now (tree_in nodes.old id) }
     requires known { KnowsRightly here.now nodes.old }
@@ -145,7 +144,7 @@ pub(crate) fn temporal_residual(
     nodes: &mut Nodes,
     env: &mut Env,
     id: usize,
-) -> Result<usize, ProgressFault>
+) -> Result<usize, EvalFault>
     requires id { id < length (trees nodes.old) }
     requires sentence { IsSentenceHere here.now (tree_in nodes.old id) }
     ensures kept { Keeps (trees nodes.old) (trees nodes.new) }
@@ -172,7 +171,7 @@ fn constant_residual(
     nodes: &Nodes,
     env: &mut Env,
     id: usize,
-) -> Result<usize, ProgressFault>
+) -> Result<usize, EvalFault>
     requires id { id < length (trees nodes.now) }
     requires sentence { IsSentenceHere here.now (tree_in nodes.now id) }
     requires state { IsState (tree_in nodes.now id) }
@@ -204,7 +203,7 @@ fn sentence_residual(
     env: &mut Env,
     residuals: &mut Residuals,
     incoming: Incoming,
-) -> Result<usize, ProgressFault>
+) -> Result<usize, EvalFault>
     requires at { incoming.formula < length (trees nodes.old) }
     requires sentence { IsSentenceHere here.now (tree_in nodes.old incoming.formula) }
     requires found { KeepsRightlyHere here.now nodes.old residuals.old incoming.world }
@@ -251,7 +250,7 @@ pub fn progress_kept(
     env: &mut Env,
     residuals: &mut Residuals,
     incoming: Incoming,
-) -> Result<usize, ProgressFault>
+) -> Result<usize, EvalFault>
     requires at { incoming.formula < length (trees nodes.old) }
     requires sentence { IsSentenceIn task.now (tree_in nodes.old incoming.formula) }
     requires found { KeepsRightly task.now w.now nodes.old residuals.old incoming.world }
@@ -292,7 +291,7 @@ pub fn progress(
     w: &World,
     env: &mut Env,
     id: usize,
-) -> Result<usize, ProgressFault>
+) -> Result<usize, EvalFault>
     requires id { id < length (trees nodes.old) }
     requires sentence { IsSentenceIn task.now (tree_in nodes.old id) }
     ensures number { IsProgressed task.now w.now nodes.old id nodes.new result }

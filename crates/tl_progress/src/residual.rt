@@ -8,7 +8,6 @@ ghost use Rattle.tl_progress.specs.Parts.{IsJoin};
 ghost use Rattle.tl_progress.specs.Quantifiers.{Stands, vars_at};
 ghost use Rattle.tl_syntax.specs.StateFormulas.{IsState};
 
-use crate::ProgressFault;
 use crate::here::Here;
 use crate::joins::{constant_number, decides, gather, join};
 use crate::layers::JoinAt;
@@ -20,7 +19,7 @@ use crate::remaining::{
     with_remaining,
 };
 use crate::truth::part_truth;
-use tl_eval::{BoundPattern, BoundTuples, Env, Memory};
+use tl_eval::{BoundPattern, BoundTuples, Env, EvalFault, Memory};
 use tl_nodes::{Node, Nodes};
 use tl_syntax::Junction;
 
@@ -33,7 +32,7 @@ pub(crate) fn state_residual(
     env: &mut Env,
     memory: &mut Memory,
     at: usize,
-) -> Result<usize, ProgressFault>
+) -> Result<usize, EvalFault>
     requires at { at < length (trees nodes.now) }
     requires fits { FitsHere here.now (tree_in nodes.now at) }
     requires state { IsState (tree_in nodes.now at) }
@@ -60,7 +59,7 @@ pub(crate) fn residual_of(
     env: &mut Env,
     memory: &mut Memory,
     at: usize,
-) -> Result<usize, ProgressFault>
+) -> Result<usize, EvalFault>
     requires at { at < length (trees nodes.old) }
     requires fits { FitsHere here.now (tree_in nodes.old at) }
     requires known { KnowsRightly here.now nodes.old }
@@ -89,7 +88,7 @@ fn layer_residual(
     env: &mut Env,
     memory: &mut Memory,
     at: usize,
-) -> Result<usize, ProgressFault>
+) -> Result<usize, EvalFault>
     requires at { at < length (trees nodes.old) }
     requires fits { FitsHere here.now (tree_in nodes.old at) }
     requires known { KnowsRightly here.now nodes.old }
@@ -220,7 +219,7 @@ fn join_residual(
     env: &mut Env,
     memory: &mut Memory,
     whole: JoinAt,
-) -> Result<usize, ProgressFault>
+) -> Result<usize, EvalFault>
     requires at { whole.at < length (trees nodes.old) }
     requires join { IsJoin whole.junction (tree_in nodes.old whole.at) }
     requires fits { FitsHere here.now (tree_in nodes.old whole.at) }
@@ -258,7 +257,7 @@ fn quantifier_residual(
     env: &mut Env,
     memory: &mut Memory,
     quantifier: Quantifier,
-) -> Result<usize, ProgressFault>
+) -> Result<usize, EvalFault>
     requires at { quantifier.at < length (trees nodes.old) }
     requires part { quantifier.part < length (trees nodes.old) }
     requires stands { Stands (trees nodes.old) quantifier }
@@ -296,7 +295,7 @@ fn instances_residual(
     memory: &mut Memory,
     quantifier: Quantifier,
     tuples: &mut BoundTuples,
-) -> Result<usize, ProgressFault>
+) -> Result<usize, EvalFault>
     requires at { quantifier.at < length (trees nodes.old) }
     requires part { quantifier.part < length (trees nodes.old) }
     requires stands { Stands (trees nodes.old) quantifier }

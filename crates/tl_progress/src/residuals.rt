@@ -43,7 +43,8 @@ impl Residuals {
         self.table.find(incoming)
     }
 
-    /// Whether so many numbers of this world are kept that no more are, as long as it is the newest.
+    /// Whether so many numbers of this world are kept that no more are, as long as it is the
+    /// newest.
     pub(crate) fn has_most_of(&self, world: usize) -> bool {
         self.table.has_most_of(world)
     }

@@ -7,12 +7,11 @@ ghost use Rattle.tl_progress.specs.CallsHere.{FitsHere, KnowsTruths, RemembersHe
 ghost use Rattle.tl_syntax.specs.Basic.{is_basic};
 ghost use Rattle.tl_syntax.specs.TreeOfFormula.{tree_of_formula};
 
-use crate::ProgressFault;
 use crate::here::Here;
 use crate::layers::{Join, Quantified};
 use crate::quantifier::put_instance;
 use crate::quick::{plain_truth, quick_truth};
-use tl_eval::{BoundPattern, BoundTuples, Env, Memory, state_in};
+use tl_eval::{BoundPattern, BoundTuples, Env, EvalFault, Memory, state_in};
 use tl_nodes::{Node, Nodes};
 use tl_syntax::{Formula, Junction};
 
@@ -23,7 +22,7 @@ pub(crate) fn basic_truth(
     env: &mut Env,
     memory: &mut Memory,
     f: &Formula,
-) -> Result<bool, ProgressFault>
+) -> Result<bool, EvalFault>
     requires fits { FitsHere here.now (tree_of_formula f.now) }
     requires basic { is_basic (tree_of_formula f.now) ≡ true }
     requires remembers { RemembersHere here.now memory.old }
@@ -34,7 +33,7 @@ pub(crate) fn basic_truth(
 {
     match state_in(here.task, here.world, env, memory, f) {
         Ok(truth) => Ok(truth),
-        Err(note) => Err(ProgressFault::Range(note)),
+        Err(note) => Err(EvalFault::Range(note)),
     }
 }
 
@@ -47,7 +46,7 @@ pub(crate) fn truth_of(
     env: &mut Env,
     memory: &mut Memory,
     at: usize,
-) -> Result<bool, ProgressFault>
+) -> Result<bool, EvalFault>
     requires at { at < length (trees nodes.now) }
     requires fits { FitsHere here.now (tree_in nodes.now at) }
     requires known { KnowsTruths here.now nodes.now }
@@ -72,7 +71,7 @@ fn layer_truth(
     env: &mut Env,
     memory: &mut Memory,
     at: usize,
-) -> Result<bool, ProgressFault>
+) -> Result<bool, EvalFault>
     requires at { at < length (trees nodes.now) }
     requires fits { FitsHere here.now (tree_in nodes.now at) }
     requires known { KnowsTruths here.now nodes.now }
@@ -143,7 +142,7 @@ pub(crate) fn part_truth(
     env: &mut Env,
     memory: &mut Memory,
     at: usize,
-) -> Result<bool, ProgressFault>
+) -> Result<bool, EvalFault>
     requires at { at < length (trees nodes.now) }
     requires fits { FitsHere here.now (tree_in nodes.now at) }
     requires known { KnowsTruths here.now nodes.now }
@@ -169,7 +168,7 @@ fn instance_truth(
     env: &mut Env,
     memory: &mut Memory,
     at: usize,
-) -> Result<bool, ProgressFault>
+) -> Result<bool, EvalFault>
     requires at { at < length (trees nodes.now) }
     requires fits { FitsHere here.now (tree_in nodes.now at) }
     requires known { KnowsTruths here.now nodes.now }
@@ -194,7 +193,7 @@ fn join_truth(
     env: &mut Env,
     memory: &mut Memory,
     join: &Join,
-) -> Result<bool, ProgressFault>
+) -> Result<bool, EvalFault>
     requires at { join.now.at < length (trees nodes.now) }
     requires below { all_below join.now.at join.now.parts.now ≡ true }
     requires fits { FitsHere here.now (tree_of_join nodes.now join.now) }
@@ -227,7 +226,7 @@ fn quantifier_truth(
     env: &mut Env,
     memory: &mut Memory,
     quantified: &Quantified,
-) -> Result<bool, ProgressFault>
+) -> Result<bool, EvalFault>
     requires part { quantified.now.part < length (trees nodes.now) }
     requires fits { FitsHere here.now (tree_of_quantified nodes.now quantified.now) }
     requires known { KnowsTruths here.now nodes.now }
@@ -257,7 +256,7 @@ fn instances_truth(
     memory: &mut Memory,
     quantified: &Quantified,
     tuples: &mut BoundTuples,
-) -> Result<bool, ProgressFault>
+) -> Result<bool, EvalFault>
     requires part { quantified.now.part < length (trees nodes.now) }
     requires fits { FitsHere here.now (tree_of_quantified nodes.now quantified.now) }
     requires known { KnowsTruths here.now nodes.now }

@@ -14,8 +14,8 @@ use Rattle.tl_terms.specs.Step.{step}
 use Rattle.tl_terms.specs.World.{World}
 use Rattle.tl_nodes.specs.NodeTrees.{tree_at}
 use Rattle.tl_nodes.specs.Numbers.{trees}
-use Rattle.tl_progress.specs.Answers.{IsCausedBy}
-use Rattle.tl_progress.specs.declared.fault.ProgressFault.{ProgressFault}
+use Rattle.tl_eval.specs.Faults.{IsCausedBy}
+use Rattle.tl_eval.specs.declared.fault.EvalFault.{EvalFault}
 use Rattle.tl_search.specs.Arrivals.{Arrives}
 use Rattle.tl_search.specs.Calls.{ForPair}
 use Rattle.tl_search.specs.Graphs.{walk}
@@ -98,7 +98,7 @@ IsArrivalFound s key (found.Known r) = IsKnownIn s key r
 IsArrivalFound s key (found.New n) = IsToKeep s key n
 
 -- progressing the formula of the arrival in its world is the cause
-abbrev pub IsProgressFault : Space → Numbers → ProgressFault → Type 0
+abbrev pub IsProgressFault : Space → Numbers → EvalFault → Type 0
 IsProgressFault s n fault = IsCausedBy (looked_by_progressing (problem_of s) (world_at (worlds_in s.worlds) n.world) (tree_at (trees s.nodes) n.label)) fault
 
 -- these numbers are of the arrival at the empty path: the first world, in which the control formula

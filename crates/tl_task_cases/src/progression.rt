@@ -12,9 +12,9 @@ use crate::stop::Stop;
 use crate::tasks::task_of;
 use std::alloc::Global;
 use std::process::Abort;
-use tl_eval::Env;
+use tl_eval::{Env, EvalFault};
 use tl_nodes::{Node, Nodes};
-use tl_progress::{ProgressFault, idle, progress};
+use tl_progress::{idle, progress};
 use tl_syntax::Ids;
 use tl_tables::{column, filled, is_row};
 use tl_world::Task;
@@ -68,10 +68,10 @@ fn part_number(nodes: &mut Nodes, task: &Task, i: usize) -> Result<usize, Stop>
 }
 
 /// Why there is no answer: the operation past range, with its offset in the formula.
-fn fault_text(alloc: Global, fault: ProgressFault) -> Result<String, Stop> {
+fn fault_text(alloc: Global, fault: EvalFault) -> Result<String, Stop> {
     match fault {
-        ProgressFault::Range(note) => Ok(note_text(alloc, note, OPENING.len())?),
-        ProgressFault::NoMemory => Ok(format!(in alloc; "no memory")?),
+        EvalFault::Range(note) => Ok(note_text(alloc, note, OPENING.len())?),
+        EvalFault::NoMemory => Ok(format!(in alloc; "no memory")?),
     }
 }
 
@@ -124,7 +124,7 @@ fn is_idly<R: Abort>(
 }
 
 /// Compares why there is no answer with the text that the row has.
-fn is_fault<R: Abort>(rt: &R, alloc: Global, fault: ProgressFault, row: &str) -> Result<(), Stop> {
+fn is_fault<R: Abort>(rt: &R, alloc: Global, fault: EvalFault, row: &str) -> Result<(), Stop> {
     let text = fault_text(alloc, fault)?;
     is_text(rt, text.as_str(), column(row, 3), row);
     Ok(())

@@ -2,7 +2,7 @@
 
 use std::alloc::{AllocError, AllocFailed};
 use std::num::ParseIntError;
-use tl_progress::ProgressFault;
+use tl_eval::EvalFault;
 use tl_rules::FormFault;
 use tl_sexpr::TextFault;
 use tl_syntax::NoMemory;
@@ -51,8 +51,8 @@ impl From<ParseIntError> for Stop {
     }
 }
 
-impl From<ProgressFault> for Stop {
-    fn from(_: ProgressFault) -> Stop {
+impl From<EvalFault> for Stop {
+    fn from(_: EvalFault) -> Stop {
         Stop::Row("a formula does not progress")
     }
 }

@@ -4,7 +4,8 @@ ghost use Rattle.tl_search.specs.Calls.{TellsAcceptance, IsAcceptanceFault};
 ghost use Rattle.tl_space.specs.Spaces.{problem_of, kept_of, Grows};
 
 use super::Space;
-use tl_progress::{ProgressFault, idle};
+use tl_eval::EvalFault;
+use tl_progress::idle;
 use tl_search::SpaceFault;
 
 impl Space {
@@ -31,8 +32,8 @@ impl Space {
             numbers.label,
         ) {
             Ok(holds) => Ok(holds),
-            Err(ProgressFault::Range(note)) => Err(SpaceFault::RangeHere(note)),
-            Err(ProgressFault::NoMemory) => Err(SpaceFault::NoMemory),
+            Err(EvalFault::Range(note)) => Err(SpaceFault::RangeHere(note)),
+            Err(EvalFault::NoMemory) => Err(SpaceFault::NoMemory),
         }
     }
 }

@@ -4,7 +4,7 @@ ghost use Rattle.tl_search.specs.Calls.{ListsActionsAt, AreNamedIn, IsActionsFau
 ghost use Rattle.tl_space.specs.Spaces.{task_of, problem_of, kept_of, Grows};
 
 use super::Space;
-use tl_action::ActFault;
+use tl_eval::EvalFault;
 use tl_search::SpaceFault;
 use tl_syntax::Actions;
 
@@ -26,8 +26,8 @@ impl Space {
             .actions(&self.task, world, &mut self.action_frame)
         {
             Ok(listed) => Ok(listed),
-            Err(ActFault::Range(note)) => Err(SpaceFault::RangeHere(note)),
-            Err(ActFault::NoMemory) => Err(SpaceFault::NoMemory),
+            Err(EvalFault::Range(note)) => Err(SpaceFault::RangeHere(note)),
+            Err(EvalFault::NoMemory) => Err(SpaceFault::NoMemory),
         }
     }
 }

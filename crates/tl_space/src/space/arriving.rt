@@ -5,7 +5,7 @@ ghost use Rattle.tl_space.specs.Remembered.{IsKnown};
 
 use super::Space;
 use crate::numbers::{Found, Numbers};
-use tl_progress::ProgressFault;
+use tl_eval::EvalFault;
 use tl_search::Arrival;
 
 /// The number of the formula TRUE.
@@ -69,7 +69,7 @@ impl Space {
 
     /// What is found of the arrival in this world with this formula: by memory, or else anew.
     /// Nothing is kept yet.
-    pub(crate) fn find(&mut self, key: Numbers) -> Result<Found, ProgressFault>
+    pub(crate) fn find(&mut self, key: Numbers) -> Result<Found, EvalFault>
         requires { AreNumbersIn self.old key }
         ensures keeps { KeepsPairs self.old self.new }
         ensures found { IfOk result (IsArrivalFound self.new key) }
@@ -83,7 +83,7 @@ impl Space {
 
     /// What is found of the arrival that is not remembered: at once where TRUE comes in, or else by
     /// progression.
-    fn find_first(&mut self, key: Numbers) -> Result<Found, ProgressFault>
+    fn find_first(&mut self, key: Numbers) -> Result<Found, EvalFault>
         requires { AreNumbersIn self.old key }
         ensures keeps { KeepsPairs self.old self.new }
         ensures found { IfOk result (IsArrivalFound self.new key) }
@@ -97,7 +97,7 @@ impl Space {
     }
 
     /// What is found of the arrival by progression. It is remembered where no pair is to be kept.
-    fn find_anew(&mut self, key: Numbers) -> Result<Found, ProgressFault>
+    fn find_anew(&mut self, key: Numbers) -> Result<Found, EvalFault>
         requires { AreNumbersIn self.old key }
         ensures keeps { KeepsPairs self.old self.new }
         ensures found { IfOk result (IsArrivalFound self.new key) }
@@ -114,7 +114,7 @@ impl Space {
     }
 
     /// What is found of the arrival by progression. Nothing is remembered of it.
-    fn find_progressed(&mut self, key: Numbers) -> Result<Found, ProgressFault>
+    fn find_progressed(&mut self, key: Numbers) -> Result<Found, EvalFault>
         requires { AreNumbersIn self.old key }
         ensures keeps { KeepsPairs self.old self.new }
         ensures met { KeepsMet self.old self.new }
@@ -137,7 +137,7 @@ impl Space {
 
     /// What is found of the first arrival in a new world: at once where TRUE comes in, or else by
     /// progression. Nothing is remembered of it.
-    pub(crate) fn find_in_new(&mut self, key: Numbers) -> Result<Found, ProgressFault>
+    pub(crate) fn find_in_new(&mut self, key: Numbers) -> Result<Found, EvalFault>
         requires { AreNumbersIn self.old key }
         ensures keeps { KeepsPairs self.old self.new }
         ensures met { KeepsMet self.old self.new }

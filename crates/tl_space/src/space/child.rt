@@ -10,8 +10,9 @@ ghost use Rattle.tl_space.specs.Spaces.{problem_of, name_count, kept_of, Grows};
 use super::Space;
 use crate::numbers::{Found, Met, Numbers};
 use std::sync::ledger::Ledger;
-use tl_action::{ActFault, Here};
-use tl_progress::{ProgressFault, is_broken_by};
+use tl_action::Here;
+use tl_eval::EvalFault;
+use tl_progress::is_broken_by;
 use tl_search::{Arrival, SpaceFault};
 use tl_syntax::{Action, NoMemory};
 use tl_terms::Steps;
@@ -44,8 +45,8 @@ impl Space {
         let is_new = key.world == before;
         match self.arrive_after(key, is_new, at, a) {
             Ok(arrival) => Ok(arrival),
-            Err(ProgressFault::Range(note)) => Err(SpaceFault::RangeAfter(note)),
-            Err(ProgressFault::NoMemory) => Err(SpaceFault::NoMemory),
+            Err(EvalFault::Range(note)) => Err(SpaceFault::RangeAfter(note)),
+            Err(EvalFault::NoMemory) => Err(SpaceFault::NoMemory),
         }
     }
 
@@ -57,7 +58,7 @@ impl Space {
         is_new: bool,
         at: usize,
         a: &Action,
-    ) -> Result<Arrival, ProgressFault>
+    ) -> Result<Arrival, EvalFault>
         requires key { AreNumbersIn self.old key }
         requires unmet { IsTrue is_new → IsLastUnmet self.old key.world }
         requires at { at < length (kept_of self.old) }
@@ -75,7 +76,7 @@ impl Space {
             Ok(Found::Known(arrival)) => Ok(arrival),
             Ok(Found::New(numbers)) => match self.keep_after(key, numbers, at, a) {
                 Ok(k) => Ok(Arrival::Fresh(k)),
-                Err(_) => Err(ProgressFault::NoMemory),
+                Err(_) => Err(EvalFault::NoMemory),
             },
             Err(fault) => Err(fault),
         }
@@ -84,7 +85,7 @@ impl Space {
     /// The pair after an action of the pair `at` arrives, in this new world with this formula.
     /// Where it is pruned the world is let go again, and nothing is remembered of it.
     #[inline(never)]
-    fn arrive_new(&mut self, key: Numbers, at: usize, a: &Action) -> Result<Arrival, ProgressFault>
+    fn arrive_new(&mut self, key: Numbers, at: usize, a: &Action) -> Result<Arrival, EvalFault>
         requires key { AreNumbersIn self.old key }
         requires unmet { IsLastUnmet self.old key.world }
         requires at { at < length (kept_of self.old) }
@@ -102,7 +103,7 @@ impl Space {
             }
             Ok(Found::New(numbers)) => match self.keep_after(key, numbers, at, a) {
                 Ok(k) => Ok(Arrival::Fresh(k)),
-                Err(_) => Err(ProgressFault::NoMemory),
+                Err(_) => Err(EvalFault::NoMemory),
             },
             Err(fault) => Err(fault),
         }
@@ -161,8 +162,8 @@ impl Space {
             .put_those_of(&here, &mut self.action_frame, a, steps)
         {
             Ok(()) => {}
-            Err(ActFault::Range(note)) => return Err(SpaceFault::RangeHere(note)),
-            Err(ActFault::NoMemory) => return Err(SpaceFault::NoMemory),
+            Err(EvalFault::Range(note)) => return Err(SpaceFault::RangeHere(note)),
+            Err(EvalFault::NoMemory) => return Err(SpaceFault::NoMemory),
         }
         let dels = self.changes.dels.as_slice();
         let adds = self.changes.adds.as_slice();

@@ -15,9 +15,10 @@ use super::Space;
 use crate::numbers::Numbers;
 use std::alloc::Global;
 use tl_action::Changes;
+use tl_eval::EvalFault;
 use tl_known::Worlds;
 use tl_nodes::Nodes;
-use tl_progress::{Incoming, ProgressFault, progress_kept};
+use tl_progress::{Incoming, progress_kept};
 use tl_syntax::NoMemory;
 use tl_world::{Task, World};
 
@@ -108,7 +109,7 @@ impl Space {
     }
 
     /// The number of the arrival's formula progressed through its world.
-    pub(crate) fn number_of_residual(&mut self, key: Numbers) -> Result<usize, ProgressFault>
+    pub(crate) fn number_of_residual(&mut self, key: Numbers) -> Result<usize, EvalFault>
         requires { AreNumbersIn self.old key }
         ensures keeps { KeepsPairs self.old self.new }
         ensures met { KeepsMet self.old self.new }

@@ -9,7 +9,7 @@ ghost use Rattle.tl_space.specs.Spaces.{problem_of, kept_of, Grows};
 
 use super::Space;
 use crate::numbers::{Found, Met, Numbers};
-use tl_progress::ProgressFault;
+use tl_eval::EvalFault;
 use tl_search::{Arrival, SpaceFault};
 use tl_syntax::NoMemory;
 
@@ -31,13 +31,13 @@ impl Space {
         };
         match self.arrive_first(key) {
             Ok(arrival) => Ok(arrival),
-            Err(ProgressFault::Range(note)) => Err(SpaceFault::RangeHere(note)),
-            Err(ProgressFault::NoMemory) => Err(SpaceFault::NoMemory),
+            Err(EvalFault::Range(note)) => Err(SpaceFault::RangeHere(note)),
+            Err(EvalFault::NoMemory) => Err(SpaceFault::NoMemory),
         }
     }
 
     /// The pair of the empty path arrives, in this world with this formula.
-    fn arrive_first(&mut self, key: Numbers) -> Result<Arrival, ProgressFault>
+    fn arrive_first(&mut self, key: Numbers) -> Result<Arrival, EvalFault>
         requires key { AreNumbersIn self.old key }
         requires empty { kept_of self.old ≡ [] }
         requires walk { LeadsTo self.old [] key }
@@ -50,7 +50,7 @@ impl Space {
             Ok(Found::Known(arrival)) => Ok(arrival),
             Ok(Found::New(numbers)) => match self.keep(key, numbers, Met::First) {
                 Ok(k) => Ok(Arrival::Fresh(k)),
-                Err(_) => Err(ProgressFault::NoMemory),
+                Err(_) => Err(EvalFault::NoMemory),
             },
             Err(fault) => Err(fault),
         }

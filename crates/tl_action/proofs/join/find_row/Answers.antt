@@ -1,6 +1,6 @@
 use Rattle.std.proofs.Common.{◌≡◌, List, [], length, Option, Some, None, true, false, true≢false, refl, sym, ap, ◌∙◌, subst}
 use Rattle.tl_action.specs.Agreement.{Agree}
-use Rattle.tl_action.specs.Answers.{IsCausedBy}
+use Rattle.tl_eval.specs.Faults.{IsCausedBy}
 use Rattle.tl_action.specs.Join.{arranged, variables, IsFound}
 use Rattle.tl_action.specs.Prepared.{HaveValues, is_prepared, looked_prepared}
 use Rattle.tl_action.proofs.BoundOrders.{arranged-keeps}

@@ -5,7 +5,8 @@ use Rattle.tl_nodes.specs.Numbers.{trees}
 use Rattle.tl_syntax.specs.declared.value.Value.{Value}
 use Rattle.tl_syntax.specs.Signature.{signature_of}
 use Rattle.tl_terms.specs.ProblemMeaning.{plain_problem}
-use Rattle.tl_progress.specs.Answers.{IsCausedBy, looked_for_residual, residual}
+use Rattle.tl_eval.specs.Faults.{IsCausedBy}
+use Rattle.tl_progress.specs.Answers.{looked_for_residual, residual}
 use Rattle.tl_progress.proofs.Below.{part-among}
 use Rattle.tl_progress.proofs.EarlyParts.{early-number}
 use Rattle.tl_progress.proofs.Found.{fits-below, residual-fault}

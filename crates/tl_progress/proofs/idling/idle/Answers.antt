@@ -11,15 +11,16 @@ use Rattle.tl_terms.specs.ProblemMeaning.{plain_problem}
 use Rattle.tl_terms.specs.Run.{Satisfies, idle_run}
 use Rattle.tl_terms.specs.World.{World}
 use Rattle.tl_terms.proofs.IdleLaws.{Satisfies-idle}
-use Rattle.tl_progress.specs.declared.fault.ProgressFault.{ProgressFault}
-use Rattle.tl_progress.specs.Answers.{IsCausedBy, looked_idly, idly_true}
+use Rattle.tl_eval.specs.declared.fault.EvalFault.{EvalFault}
+use Rattle.tl_eval.specs.Faults.{IsCausedBy}
+use Rattle.tl_progress.specs.Answers.{looked_idly, idly_true}
 use Rattle.tl_progress.proofs.idling.idle.Goals as goal
 
-holds : (p : PlainProblem) (w : World) (f : FormulaTree) (r : Result Bool ProgressFault) → IfOk r (λ b. b ≡ idly_true p w no_values f) → IfOk r (λ b. IsTrue b ↔ Satisfies p (idle_run w) 0 f)
+holds : (p : PlainProblem) (w : World) (f : FormulaTree) (r : Result Bool EvalFault) → IfOk r (λ b. b ≡ idly_true p w no_values f) → IfOk r (λ b. IsTrue b ↔ Satisfies p (idle_run w) 0 f)
 holds p w f (Ok b) h = let k = Satisfies-idle p w 0 f in (λ e. k.1 (sym h ∙ e), λ s. h ∙ k.0 s)
 holds p w f (Err x) h = tt
 
-by_cause : (p : PlainProblem) (w : World) (f : FormulaTree) (r : Result Bool ProgressFault) → IfErr r (IsCausedBy (looked_idly p w no_values f)) → IfErr r (IsCausedBy (looked_by_idling p w f))
+by_cause : (p : PlainProblem) (w : World) (f : FormulaTree) (r : Result Bool EvalFault) → IfErr r (IsCausedBy (looked_idly p w no_values f)) → IfErr r (IsCausedBy (looked_by_idling p w f))
 unfolding looked_by_idling
 by_cause p w f r h = h
 

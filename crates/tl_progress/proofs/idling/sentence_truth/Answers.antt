@@ -6,7 +6,8 @@ use Rattle.tl_nodes.specs.Numbers.{trees}
 use Rattle.tl_syntax.specs.declared.value.Value.{Value}
 use Rattle.tl_syntax.specs.Signature.{signature_of}
 use Rattle.tl_terms.specs.ProblemMeaning.{plain_problem}
-use Rattle.tl_progress.specs.Answers.{IsCausedBy, looked_idly, idly_true}
+use Rattle.tl_eval.specs.Faults.{IsCausedBy}
+use Rattle.tl_progress.specs.Answers.{looked_idly, idly_true}
 use Rattle.tl_progress.specs.Parts.{IsBelow}
 use Rattle.tl_progress.proofs.Found.{last-of, fits-below, truth-fault}
 use Rattle.tl_progress.proofs.Learned.{truths-more}

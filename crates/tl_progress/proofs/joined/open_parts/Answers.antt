@@ -2,7 +2,7 @@ use Rattle.std.proofs.Common.{◌≡◌, List, Option, Some, None, IfOk, IfErr, 
 use Rattle.tl_eval.specs.Remembered.{AreTruths}
 use Rattle.tl_syntax.specs.declared.value.Value.{Value}
 use Rattle.tl_terms.specs.ProblemMeaning.{plain_problem}
-use Rattle.tl_progress.specs.Answers.{IsCausedBy}
+use Rattle.tl_eval.specs.Faults.{IsCausedBy}
 use Rattle.tl_progress.specs.Calls.{looked_for_residual_at, AreOpenIn, IsDecided}
 use Rattle.tl_progress.proofs.joined.open_parts.Goals as goal
 

@@ -9,7 +9,8 @@ use Rattle.tl_syntax.specs.declared.value.Value.{Value}
 use Rattle.tl_syntax.specs.Signature.{signature_of}
 use Rattle.tl_syntax.specs.Trees.{FormulaTree}
 use Rattle.tl_terms.specs.ProblemMeaning.{plain_problem}
-use Rattle.tl_progress.specs.Answers.{IsCausedBy, looked_for_residual, residual}
+use Rattle.tl_eval.specs.Faults.{IsCausedBy}
+use Rattle.tl_progress.specs.Answers.{looked_for_residual, residual}
 use Rattle.tl_progress.specs.KeptResiduals.{found_in}
 use Rattle.tl_progress.specs.Parts.{IsBelow}
 use Rattle.tl_progress.specs.Sentences.{IsSentence}

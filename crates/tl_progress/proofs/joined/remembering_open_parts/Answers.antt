@@ -8,7 +8,8 @@ use Rattle.tl_syntax.specs.Lists.{Each}
 use Rattle.tl_syntax.specs.Signature.{signature_of}
 use Rattle.tl_terms.specs.ProblemMeaning.{plain_problem}
 use Rattle.tl_terms.specs.Progression.{constant}
-use Rattle.tl_progress.specs.Answers.{IsCausedBy, looked_for_residual, residual}
+use Rattle.tl_eval.specs.Faults.{IsCausedBy}
+use Rattle.tl_progress.specs.Answers.{looked_for_residual, residual}
 use Rattle.tl_progress.specs.Parts.{IsBelow}
 use Rattle.tl_progress.proofs.Below.{part-among}
 use Rattle.tl_progress.proofs.Found.{residual-fault}

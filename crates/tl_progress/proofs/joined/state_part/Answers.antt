@@ -11,15 +11,16 @@ use Rattle.tl_terms.specs.Problem.{PlainProblem}
 use Rattle.tl_terms.specs.ProblemMeaning.{plain_problem}
 use Rattle.tl_terms.specs.Progression.{constant}
 use Rattle.tl_terms.specs.World.{World}
-use Rattle.tl_progress.specs.declared.fault.ProgressFault.{ProgressFault}
-use Rattle.tl_progress.specs.Answers.{IsCausedBy, idly_true, residual}
+use Rattle.tl_eval.specs.declared.fault.EvalFault.{EvalFault}
+use Rattle.tl_eval.specs.Faults.{IsCausedBy}
+use Rattle.tl_progress.specs.Answers.{idly_true, residual}
 use Rattle.tl_progress.specs.Sentences.{FitsSomewhere}
 use Rattle.tl_progress.proofs.StateFormulas.{constant-next, looked-same}
 use Rattle.tl_progress.proofs.TruthLayers.{shown-Basic, basic-in, idle-Basic, looked-Basic}
 use Rattle.tl_progress.proofs.joined.state_part.Goals as goal
 
 -- the truth is the constant that is left
-leaves : (p : PlainProblem) (w : World) (e : Assignment) (f : FormulaTree) → IsState f → (r : Result Bool ProgressFault) → IfOk r (λ b. b ≡ idly_true p w e f) → IfOk r (λ b. residual p w e f ≡ constant b)
+leaves : (p : PlainProblem) (w : World) (e : Assignment) (f : FormulaTree) → IsState f → (r : Result Bool EvalFault) → IfOk r (λ b. b ≡ idly_true p w e f) → IfOk r (λ b. residual p w e f ≡ constant b)
 leaves p w e f state (Ok b) h = sym (constant-next p w e f b state h)
 leaves p w e f state (Err x) h = tt
 

@@ -7,7 +7,8 @@ use Rattle.tl_syntax.specs.declared.value.Value.{Value}
 use Rattle.tl_syntax.specs.Trees.{FormulaTree}
 use Rattle.tl_terms.specs.Operations.{Operation}
 use Rattle.tl_terms.specs.ProblemMeaning.{plain_problem}
-use Rattle.tl_progress.specs.Answers.{IsCausedBy, idly_true, looked_idly}
+use Rattle.tl_eval.specs.Faults.{IsCausedBy}
+use Rattle.tl_progress.specs.Answers.{idly_true, looked_idly}
 use Rattle.tl_progress.proofs.StateFormulas.{constant-next, looked-same}
 use Rattle.tl_progress.proofs.progression.constant_residual.Goals as goal
 

@@ -17,8 +17,9 @@ use Rattle.tl_terms.specs.Run.{Satisfies, SatisfiesAlong, state_at}
 use Rattle.tl_terms.specs.World.{World}
 use Rattle.tl_terms.proofs.RunLaws.{progression-Satisfies, progression-along}
 use Rattle.tl_world.specs.declared.task.Task.{Task}
-use Rattle.tl_progress.specs.declared.fault.ProgressFault.{ProgressFault}
-use Rattle.tl_progress.specs.Answers.{IsCausedBy, residual, looked_for_residual}
+use Rattle.tl_eval.specs.declared.fault.EvalFault.{EvalFault}
+use Rattle.tl_eval.specs.Faults.{IsCausedBy}
+use Rattle.tl_progress.specs.Answers.{residual, looked_for_residual}
 use Rattle.tl_progress.specs.Calls.{IsProgression}
 use Rattle.tl_progress.specs.Sentences.{IsSentence}
 use Rattle.tl_progress.proofs.NamedResiduals.{residual-named}
@@ -27,10 +28,10 @@ use Rattle.tl_eval.specs.Frames.{assignment_in}
 use Rattle.tl_terms.specs.Looked.{looked_by_progressing}
 use Rattle.tl_progress.proofs.progression.progress_kept.Goals as goal
 
-by_number : (p : PlainProblem) (w : World) (f : FormulaTree) (us : List FormulaTree) (e : Assignment) (r : Result ℕ ProgressFault) → e ≡ no_values → IfOk r (λ i. slice_get us i ≡ Some (residual p w e f)) → IfOk r (λ i. slice_get us i ≡ Some (residual p w no_values f))
+by_number : (p : PlainProblem) (w : World) (f : FormulaTree) (us : List FormulaTree) (e : Assignment) (r : Result ℕ EvalFault) → e ≡ no_values → IfOk r (λ i. slice_get us i ≡ Some (residual p w e f)) → IfOk r (λ i. slice_get us i ≡ Some (residual p w no_values f))
 by_number p w f us e r n h = subst (λ (d : Assignment). IfOk r (λ i. slice_get us i ≡ Some (residual p w d f))) n h
 
-by_cause : (p : PlainProblem) (w : World) (f : FormulaTree) (e : Assignment) (r : Result ℕ ProgressFault) → e ≡ no_values → IfErr r (IsCausedBy (looked_for_residual p w e f)) → IfErr r (IsCausedBy (looked_by_progressing p w f))
+by_cause : (p : PlainProblem) (w : World) (f : FormulaTree) (e : Assignment) (r : Result ℕ EvalFault) → e ≡ no_values → IfErr r (IsCausedBy (looked_for_residual p w e f)) → IfErr r (IsCausedBy (looked_by_progressing p w f))
 unfolding looked_by_progressing
 by_cause p w f e r n h = subst (λ (d : Assignment). IfErr r (IsCausedBy (looked_for_residual p w d f))) n h
 
@@ -39,7 +40,7 @@ next-is : (p : PlainProblem) (v w : World) (f : FormulaTree) (us : List FormulaT
     → slice_get us i ≡ Some (residual p w no_values f) → progressed (situation_of p v) no_values f ≡ tree_at us i
 next-is p v w f us i e h = ap (λ (v : World). progressed (situation_of p v) no_values f) e ∙ sym (at-is us i _ h)
 
-is-progression : (task : Task) (w : World) (old : Nodes) (j : ℕ) (new : Nodes) (r : Result ℕ ProgressFault)
+is-progression : (task : Task) (w : World) (old : Nodes) (j : ℕ) (new : Nodes) (r : Result ℕ EvalFault)
     → IfOk r (λ i. slice_get (trees new) i ≡ Some (residual (plain_problem task.problem) w no_values (tree_at (trees old) j)))
     → IfOk r (λ i. IsProgression task w old j new i)
 is-progression task w old j new (Ok i) h =
@@ -53,11 +54,11 @@ is-progression task w old j new (Ok i) h =
     }
 is-progression task w old j new (Err x) h = tt
 
-stands-alone : (g : Signature) (p : PlainProblem) (w : World) (f : FormulaTree) (us : List FormulaTree) (r : Result ℕ ProgressFault) → IsSentence g f → IfOk r (λ i. slice_get us i ≡ Some (residual p w no_values f)) → IfOk r (λ i. IsSentence g (tree_at us i))
+stands-alone : (g : Signature) (p : PlainProblem) (w : World) (f : FormulaTree) (us : List FormulaTree) (r : Result ℕ EvalFault) → IsSentence g f → IfOk r (λ i. slice_get us i ≡ Some (residual p w no_values f)) → IfOk r (λ i. IsSentence g (tree_at us i))
 stands-alone g p w f us (Ok i) s h = subst (IsSentence g) (sym (at-is us i _ h)) (sentence-next g (situation_of p w) no_values f s)
 stands-alone g p w f us (Err x) s h = tt
 
-stays-named : (p : Problem) (w : World) (f : FormulaTree) (us : List FormulaTree) (r : Result ℕ ProgressFault) → IfOk r (λ i. slice_get us i ≡ Some (residual (plain_problem p) w no_values f))
+stays-named : (p : Problem) (w : World) (f : FormulaTree) (us : List FormulaTree) (r : Result ℕ EvalFault) → IfOk r (λ i. slice_get us i ≡ Some (residual (plain_problem p) w no_values f))
     → IfOk r (λ i. WorldIsNamed (length p.names) w → IsNamed (length p.names) f → IsNamed (length p.names) (tree_at us i))
 stays-named p w f us (Ok i) h = λ world formula. subst (IsNamed (length p.names)) (sym (at-is us i _ h)) (residual-named p w f world formula)
 stays-named p w f us (Err x) h = tt

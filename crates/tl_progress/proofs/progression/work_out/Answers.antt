@@ -5,7 +5,7 @@ use Rattle.tl_nodes.specs.NodeTrees.{tree_at}
 use Rattle.tl_nodes.specs.Numbers.{trees}
 use Rattle.tl_terms.specs.Operations.{Operation}
 use Rattle.tl_terms.specs.ProblemMeaning.{plain_problem}
-use Rattle.tl_progress.specs.Answers.{IsCausedBy}
+use Rattle.tl_eval.specs.Faults.{IsCausedBy}
 use Rattle.tl_progress.proofs.Learned.{truths-more, residuals-more}
 use Rattle.tl_progress.proofs.ResidualLayers.{truths-still}
 use Rattle.tl_progress.proofs.StateFormulas.{looked-same}

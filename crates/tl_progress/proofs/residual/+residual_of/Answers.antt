@@ -12,7 +12,8 @@ use Rattle.tl_syntax.specs.Signature.{signature_of}
 use Rattle.tl_syntax.specs.Trees.{FormulaTree}
 use Rattle.tl_terms.specs.Definitions.{situation_of}
 use Rattle.tl_terms.specs.ProblemMeaning.{plain_problem}
-use Rattle.tl_progress.specs.Answers.{IsCausedBy, looked_for_residual, residual}
+use Rattle.tl_eval.specs.Faults.{IsCausedBy}
+use Rattle.tl_progress.specs.Answers.{looked_for_residual, residual}
 use Rattle.tl_progress.specs.Parts.{parts, join_parts}
 use Rattle.tl_progress.specs.Quantifiers.{bound_in, node_bound, node_vars, vars_in}
 use Rattle.tl_progress.specs.Sentences.{FitsSomewhere}

@@ -5,7 +5,7 @@ use Rattle.tl_nodes.specs.Numbers.{trees}
 use Rattle.tl_syntax.specs.Trees.{FormulaTree}
 use Rattle.tl_terms.specs.Operations.{Operation}
 use Rattle.tl_terms.specs.ProblemMeaning.{plain_problem}
-use Rattle.tl_progress.specs.Answers.{IsCausedBy}
+use Rattle.tl_eval.specs.Faults.{IsCausedBy}
 use Rattle.tl_progress.proofs.StateFormulas.{constant-next, looked-same}
 use Rattle.tl_progress.proofs.residual.state_residual.Goals as goal
 

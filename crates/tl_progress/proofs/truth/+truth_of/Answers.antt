@@ -12,7 +12,8 @@ use Rattle.tl_syntax.specs.Signature.{signature_of}
 use Rattle.tl_syntax.specs.Trees.{FormulaTree}
 use Rattle.tl_terms.specs.Operations.{Operation}
 use Rattle.tl_terms.specs.ProblemMeaning.{plain_problem}
-use Rattle.tl_progress.specs.Answers.{IsCausedBy, decided, looked_idly, idly_true}
+use Rattle.tl_eval.specs.Faults.{IsCausedBy}
+use Rattle.tl_progress.specs.Answers.{decided, looked_idly, idly_true}
 use Rattle.tl_progress.specs.Parts.{parts}
 use Rattle.tl_progress.specs.Sentences.{FitsSomewhere}
 use Rattle.tl_progress.proofs.Below.{part-lower, part-fits, among-at}
