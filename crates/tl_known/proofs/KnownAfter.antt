@@ -6,8 +6,7 @@ use Rattle.tl_syntax.specs.declared.fact.Fact.{Fact}
 use Rattle.tl_syntax.specs.declared.memory.NoMemory.{NoMemory}
 use Rattle.tl_syntax.specs.declared.place_value.PlaceValue.{PlaceValue}
 use Rattle.tl_terms.specs.World.{World}
-use Rattle.tl_world.specs.Edits.{changed_places}
-use Rattle.tl_world.specs.Moves.{changed_facts}
+use Rattle.tl_world.specs.Edits.{changed_facts, changed_places}
 use Rattle.tl_known.specs.NumberedLists.{IsAdded, IsOnce, Stay}
 use Rattle.tl_known.specs.Unchanged.{changed_world, IsNumberAfter}
 use Rattle.tl_known.proofs.Unchanged.{number-after}

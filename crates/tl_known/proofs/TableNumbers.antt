@@ -16,8 +16,7 @@ use Rattle.tl_terms.specs.Acceptance.{is_value}
 use Rattle.tl_terms.specs.World.{World}
 use Rattle.tl_known.specs.declared.table_name.TableName.{TableName}
 use Rattle.tl_known.specs.declared.table_name.TableName.TheVariants.{Pred, Fun}
-use Rattle.tl_world.specs.Edits.{changed_places, lists_fact}
-use Rattle.tl_world.specs.Moves.{changed_facts}
+use Rattle.tl_world.specs.Edits.{changed_facts, changed_places, lists_fact}
 use Rattle.tl_known.specs.NumberedLists.{IsAdded}
 use Rattle.tl_known.specs.TableNumbers.{changes_table, lists_pred, sets_fun, standing, tables_in, AreAlikeOf, AreNumbered, AreTableNumbers, ComesFrom, IsTableNumber, LaterStandFrom, StandFrom, TellAlike, says}
 use Rattle.tl_world.proofs.Orders.{contains-all, contains-without, key-is}

@@ -17,10 +17,9 @@ use Rattle.tl_terms.specs.Step.{without_all}
 use Rattle.tl_terms.specs.World.{World}
 use Rattle.tl_rows.specs.declared.named.Named.{Named}
 use Rattle.tl_rows.specs.Codes.{values_eq}
-use Rattle.tl_world.specs.Edits.{changed_places, lists_fact}
-use Rattle.tl_world.specs.Moves.{AreSameBeside, changed_facts}
+use Rattle.tl_world.specs.Edits.{changed_facts, changed_places, lists_fact}
 use Rattle.tl_rows.specs.Tables.{keyed, entries_of, fact_row, fact_tables, facts_of}
-use Rattle.tl_known.specs.Unchanged.{row_keys, table_keys, AreAlikeBeside, IsNumberAfter}
+use Rattle.tl_known.specs.Unchanged.{row_keys, table_keys, AreAlikeBeside, AreSameBeside, IsNumberAfter}
 use Rattle.tl_world.proofs.Orders.{contains-all, contains-without, key-is}
 use Rattle.tl_rows.proofs.SameParts.{row-tells}
 

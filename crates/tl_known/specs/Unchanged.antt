@@ -1,5 +1,6 @@
 -- Facts that changes do not name, and the world that changes make.
 use Rattle.std.specs.Prelude.{◌≡◌, ◌<◌, ◌||◌, ℕ, Bool, false, not, List, [], ◌∷◌, ◌++◌, map, length, slice_get, slice_index_or, Some}
+use Rattle.std.specs.FinSet as set
 use Rattle.std.specs.List.{list_any}
 use Rattle.std.specs.Ordering.{eq_by_cmp}
 use Rattle.tl_syntax.specs.declared.fact.Fact.{Fact}
@@ -9,12 +10,15 @@ use Rattle.tl_syntax.specs.Keys.{Key, key_cmp, fact_key}
 use Rattle.tl_terms.specs.World.{World, has_fact}
 use Rattle.tl_rows.specs.declared.named.Named.{Named}
 use Rattle.tl_known.specs.declared.tables_beside.NumberedTables.{NumberedTables}
-use Rattle.tl_world.specs.Edits.{changed_places, lists_fact}
-use Rattle.tl_world.specs.Moves.{changed_facts}
+use Rattle.tl_world.specs.Edits.{changed_facts, changed_places, lists_fact}
 
 -- the fact is not in the world, or is among those that are added
 abbrev pub is_gone : World → List Fact → Fact → Bool
 is_gone w adds f = not (has_fact w (fact_key f)) || lists_fact adds (fact_key f)
+
+-- the same facts, but for those of a list
+abbrev pub AreSameBeside : List Fact → set.FinSet key_cmp → set.FinSet key_cmp → Type 0
+AreSameBeside facts s t = (q : Key) → lists_fact facts q ≡ false → set.contains s q ≡ set.contains t q
 
 -- the facts of the table with the number n
 abbrev pub row_keys : ℕ → List (List Value) → List Key

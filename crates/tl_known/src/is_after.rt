@@ -1,12 +1,11 @@
 // Whether a world is the one that changes make of another.
 ghost use Rattle.std.specs.List.{list_all};
-ghost use Rattle.std.specs.Prelude.{◌≡◌, ◌++◌, true};
+ghost use Rattle.std.specs.Prelude.{◌≡◌, ◌++◌, IsTrue};
 ghost use Rattle.tl_syntax.specs.Keys.{fact_key};
 ghost use Rattle.tl_terms.specs.World.{has_fact};
-ghost use Rattle.tl_world.specs.Edits.{changed_places};
-ghost use Rattle.tl_world.specs.Moves.{AreSameBeside, changed_facts};
+ghost use Rattle.tl_world.specs.Edits.{changed_facts, changed_places};
 ghost use Rattle.tl_known.specs.TableNumbers.{AreToldAlike};
-ghost use Rattle.tl_known.specs.Unchanged.{is_gone};
+ghost use Rattle.tl_known.specs.Unchanged.{is_gone, AreSameBeside};
 ghost use Rattle.tl_known.specs.Unset.{has_value, AreSameUnset};
 
 use crate::named_facts::is_one_of;
@@ -53,7 +52,7 @@ impl<'a> Numbered<'a> {
     /// takes no memory.
     fn is_beside(&self, from: &Numbered<'a>, dels: &[Fact], adds: &[Fact]) -> bool
         requires { AreToldAlike self.now from.now }
-        ensures { result ≡ true
+        ensures { IsTrue result
             → AreSameBeside (dels.now ++ adds.now) self.now.world.now.facts from.now.world.now.facts }
     {
         let these = NumberedTables {
@@ -71,7 +70,7 @@ impl<'a> Numbered<'a> {
     /// set. It takes no memory.
     fn has_values_beside(&self, from: &Numbered<'a>, sets: &[PlaceValue]) -> bool
         requires { AreToldAlike self.now from.now }
-        ensures { result ≡ true
+        ensures { IsTrue result
             → AreSameUnset sets.now self.now.world.now.places from.now.world.now.places }
     {
         let tables = self.world.tables();
@@ -91,7 +90,7 @@ impl<'a> Numbered<'a> {
     /// the world `from`. It takes no memory.
     fn has_changed_facts(&self, from: &Numbered<'a>, dels: &[Fact], adds: &[Fact]) -> bool
         requires { AreToldAlike self.now from.now }
-        ensures { result ≡ true
+        ensures { IsTrue result
             → self.now.world.now.facts ≡ changed_facts from.now.world.now.facts dels.now adds.now }
     {
         if !holds_added(self.world, adds) {
@@ -107,7 +106,7 @@ impl<'a> Numbered<'a> {
     /// those of the world `from`. It takes no memory.
     fn has_changed_places(&self, from: &Numbered<'a>, sets: &[PlaceValue]) -> bool
         requires { AreToldAlike self.now from.now }
-        ensures { result ≡ true
+        ensures { IsTrue result
             → self.now.world.now.places ≡ changed_places from.now.world.now.places sets.now }
     {
         if !has_set_values(self.world, sets) {
@@ -127,9 +126,9 @@ impl<'a> Numbered<'a> {
         sets: &[PlaceValue],
     ) -> bool
         requires { AreToldAlike self.now from.now }
-        ensures facts { result ≡ true
+        ensures facts { IsTrue result
             → self.now.world.now.facts ≡ changed_facts from.now.world.now.facts dels.now adds.now }
-        ensures places { result ≡ true
+        ensures places { IsTrue result
             → self.now.world.now.places ≡ changed_places from.now.world.now.places sets.now }
     {
         self.has_changed_facts(from, dels, adds) && self.has_changed_places(from, sets)

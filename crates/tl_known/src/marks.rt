@@ -13,6 +13,9 @@ const FEWEST: usize = 64;
 /// What stands in a place without a number.
 const NOTHING: u64 = 0;
 
+/// How many bits of a place the number takes.
+const NUMBER_BITS: u32 = 32;
+
 /// The part of a mark that stands in a place.
 const UPPER: u64 = 0xffff_ffff_0000_0000;
 
@@ -31,7 +34,7 @@ pub(crate) struct Marks {
 
 /// The first place at which a mark is looked for.
 fn home_of(mark: u64, last: usize) -> usize {
-    (mark >> 32) as usize & last
+    (mark >> NUMBER_BITS) as usize & last
 }
 
 /// Whether both have the same part of a mark.

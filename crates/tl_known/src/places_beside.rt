@@ -1,6 +1,6 @@
 // Places of two worlds that have the same values but for those that are set.
 ghost use Rattle.std.specs.Ordering.{eq_by_cmp};
-ghost use Rattle.std.specs.Prelude.{◌≡◌, [], drop, true};
+ghost use Rattle.std.specs.Prelude.{◌≡◌, [], drop, IsTrue};
 ghost use Rattle.tl_syntax.specs.Keys.{key_cmp, place_entry};
 ghost use Rattle.tl_rows.specs.RowTests.{place_row_eq};
 ghost use Rattle.tl_known.specs.TableNumbers.{sets_fun};
@@ -49,7 +49,7 @@ fn is_same_place(place: &Place<'_>, other: &Place<'_>) -> bool
 
 /// Whether all places from one on are set. It takes no memory.
 fn are_set_from(fun: u32, rows: &PlaceRows, from: usize, sets: &[PlaceValue]) -> bool
-    ensures { result ≡ true → ArePlacesBeside sets.now fun (drop from rows.now) [] }
+    ensures { IsTrue result → ArePlacesBeside sets.now fun (drop from rows.now) [] }
 {
     let mut k = from;
     while k < rows.len() {
@@ -67,7 +67,7 @@ fn are_set_from(fun: u32, rows: &PlaceRows, from: usize, sets: &[PlaceValue]) ->
 ///
 /// Both tables are gone over once, side by side.
 fn are_places_beside(fun: u32, rows: &PlaceRows, others: &PlaceRows, sets: &[PlaceValue]) -> bool
-    ensures { result ≡ true → ArePlacesBeside sets.now fun rows.now others.now }
+    ensures { IsTrue result → ArePlacesBeside sets.now fun rows.now others.now }
 {
     let mut k = 0;
     let mut l = 0;
@@ -90,7 +90,7 @@ fn are_places_beside(fun: u32, rows: &PlaceRows, others: &PlaceRows, sets: &[Pla
 
 /// Whether all places of the tables from one on are set. It takes no memory.
 fn are_tables_set_from(tables: &[Named<PlaceRows>], from: usize, sets: &[PlaceValue]) -> bool
-    ensures { result ≡ true → ArePlaceTablesBeside sets.now (drop from tables.now) [] }
+    ensures { IsTrue result → ArePlaceTablesBeside sets.now (drop from tables.now) [] }
 {
     let mut i = from;
     while i < tables.len() {
@@ -113,7 +113,7 @@ pub(crate) fn are_place_tables_beside(
 ) -> bool
     requires { TellPlaces these.now.tables.now these.now.numbers.now
         those.now.tables.now those.now.numbers.now }
-    ensures { result ≡ true
+    ensures { IsTrue result
         → ArePlaceTablesBeside sets.now these.now.tables.now those.now.tables.now }
 {
     let tables = these.tables;

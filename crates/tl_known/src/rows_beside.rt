@@ -1,5 +1,5 @@
 // Rows of two tables that are the same but for those that changes name.
-ghost use Rattle.std.specs.Prelude.{◌≡◌, [], drop, true};
+ghost use Rattle.std.specs.Prelude.{[], drop, IsTrue};
 ghost use Rattle.tl_known.specs.Unchanged.{AreRowsBeside};
 
 use crate::named_facts::is_named;
@@ -14,7 +14,7 @@ pub(crate) fn are_named_from(
     dels: &[Fact],
     adds: &[Fact],
 ) -> bool
-    ensures { result ≡ true → AreRowsBeside dels.now adds.now pred (drop from rows.now) [] }
+    ensures { IsTrue result → AreRowsBeside dels.now adds.now pred (drop from rows.now) [] }
 {
     let mut k = from;
     while k < rows.len() {
@@ -37,7 +37,7 @@ pub(crate) fn are_rows_beside(
     dels: &[Fact],
     adds: &[Fact],
 ) -> bool
-    ensures { result ≡ true → AreRowsBeside dels.now adds.now pred rows.now others.now }
+    ensures { IsTrue result → AreRowsBeside dels.now adds.now pred rows.now others.now }
 {
     let mut k = 0;
     let mut l = 0;

@@ -1,9 +1,9 @@
 // Numbers of tables that are the same.
-ghost use Rattle.std.specs.Prelude.{◌≡◌, ℕ, drop, slice_get, Some, true};
+ghost use Rattle.std.specs.Prelude.{◌≡◌, ℕ, drop, slice_get, Some, IsTrue};
 
 /// Whether there is a number at both places, and the same one. It takes no memory.
 pub(crate) fn is_same_number(numbers: &[u32], i: usize, others: &[u32], j: usize) -> bool
-    ensures { result ≡ true
+    ensures { IsTrue result
         → (k : ℕ) × (slice_get numbers.now i ≡ Some k) × (slice_get others.now j ≡ Some k) }
 {
     i < numbers.len() && j < others.len() && numbers[i] == others[j]

@@ -1,5 +1,5 @@
 // Tables of two worlds that have the same facts but for those that changes name.
-ghost use Rattle.std.specs.Prelude.{◌≡◌, [], drop, true};
+ghost use Rattle.std.specs.Prelude.{[], drop, IsTrue};
 ghost use Rattle.tl_known.specs.Unchanged.{AreNumberedBeside, AreRowsBeside, AreTablesBeside, TellRowsOf};
 
 use crate::named_facts::has_pred;
@@ -19,7 +19,7 @@ pub(crate) struct NumberedTables<'a> {
 /// Whether the two tables of one predicate, which have different numbers or none, are found to have
 /// the same facts, but for those that the changes name. It takes no memory.
 fn is_table_beside(pred: u32, rows: &Rows, others: &Rows, dels: &[Fact], adds: &[Fact]) -> bool
-    ensures { result ≡ true → AreRowsBeside dels.now adds.now pred rows.now others.now }
+    ensures { IsTrue result → AreRowsBeside dels.now adds.now pred rows.now others.now }
 {
     if has_pred(dels, pred) || has_pred(adds, pred) {
         are_rows_beside(pred, rows, others, dels, adds)
@@ -31,7 +31,7 @@ fn is_table_beside(pred: u32, rows: &Rows, others: &Rows, dels: &[Fact], adds: &
 /// Whether all facts of the tables from a place on are such as the changes name. It takes no
 /// memory.
 fn are_tables_named_from(tables: &[Named<Rows>], from: usize, dels: &[Fact], adds: &[Fact]) -> bool
-    ensures { result ≡ true → AreTablesBeside dels.now adds.now (drop from tables.now) [] }
+    ensures { IsTrue result → AreTablesBeside dels.now adds.now (drop from tables.now) [] }
 {
     let mut i = from;
     while i < tables.len() {
@@ -54,7 +54,7 @@ pub(crate) fn are_tables_beside(
     adds: &[Fact],
 ) -> bool
     requires { TellRowsOf these.now those.now }
-    ensures { result ≡ true → AreNumberedBeside dels.now adds.now these.now those.now }
+    ensures { IsTrue result → AreNumberedBeside dels.now adds.now these.now those.now }
 {
     let tables = these.tables;
     let others = those.tables;

@@ -1,5 +1,5 @@
 // The tables of a world by their names.
-ghost use Rattle.std.specs.Prelude.{◌≡◌, ◌<◌, length, slice_get, slice_index_or, true, Some, IfSome};
+ghost use Rattle.std.specs.Prelude.{◌≡◌, ◌<◌, length, slice_get, slice_index_or, Some, IfSome, IsTrue};
 ghost use Rattle.tl_known.specs.TableNumbers.{tables_in, AreAlikeOf};
 ghost use Rattle.tl_known.specs.declared.table_name.TableName.TheVariants.{Pred, Fun};
 
@@ -72,7 +72,7 @@ pub(crate) fn place_of_table(world: &World, table: TableName) -> Option<usize>
 
 /// Whether the worlds are found to have the same facts of the predicate. It takes no memory.
 fn has_same_facts(world: &World, other: &World, pred: u32) -> bool
-    ensures { result ≡ true → AreAlikeOf (Pred pred) world.now other.now }
+    ensures { IsTrue result → AreAlikeOf (Pred pred) world.now other.now }
 {
     match (world.rows(pred), other.rows(pred)) {
         (Some(rows), Some(others)) => *rows == *others,
@@ -83,7 +83,7 @@ fn has_same_facts(world: &World, other: &World, pred: u32) -> bool
 /// Whether the worlds are found to have the same values at the places of the function. It takes
 /// no memory.
 fn has_same_values(world: &World, other: &World, fun: u32) -> bool
-    ensures { result ≡ true → AreAlikeOf (Fun fun) world.now other.now }
+    ensures { IsTrue result → AreAlikeOf (Fun fun) world.now other.now }
 {
     match (world.places(fun), other.places(fun)) {
         (Some(rows), Some(others)) => *rows == *others,
@@ -93,7 +93,7 @@ fn has_same_values(world: &World, other: &World, fun: u32) -> bool
 
 /// Whether the worlds are found to have the same table of this name. It takes no memory.
 pub(crate) fn is_alike(world: &World, other: &World, table: TableName) -> bool
-    ensures { result ≡ true → AreAlikeOf table world.now other.now }
+    ensures { IsTrue result → AreAlikeOf table world.now other.now }
 {
     match table {
         TableName::Pred(pred) => has_same_facts(world, other, pred),

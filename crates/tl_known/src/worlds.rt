@@ -153,9 +153,9 @@ impl Worlds {
         self.find_by_mark(exact, source)
     }
 
-    /// The number of the world that the changes make of the world of the number `from`: the one
-    /// that it has, which is mostly found without making the world, or else the next one. Its tables
-    /// that the changes leave alone keep their numbers. It fails for want of memory alone.
+    /// The number of the world that the changes make of the world of the number `from`: that which
+    /// it has, mostly found without making the world, or else the next one. Its tables that the
+    /// changes leave alone keep their numbers. It fails for want of memory alone.
     pub fn number_after(
         &mut self,
         from: usize,
