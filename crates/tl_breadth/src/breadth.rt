@@ -10,13 +10,13 @@ ghost use Rattle.tl_breadth.specs.Reports.{IsBreadthFirstReport, ReportsArrivals
 use crate::levels::BreadthFirst;
 use std::alloc::Global;
 use std::sync::ledger::Ledger;
-use tl_search::{Events, Pairs, Report, SearchFault};
+use tl_search::{Events, Report, SearchFault, SearchSpace};
 use tl_terms::Steps;
 
-/// Breadth-first search for a plan of at most `within` actions, among at most `nodes` pairs
+/// Breadth-first search for a plan of at most `within` actions, among at most `nodes` search nodes
 /// (Bacchus and Kabanza 2000): the first accepted plan by length and then by actions (shortlex).
-/// `Spent` comes with one pair too many; where `watch` is true each arrival has an event.
-pub fn search<S: Pairs, L: Ledger>(
+/// `Spent` comes with one search node too many; where `watch` is true each arrival has an event.
+pub fn search<S: SearchSpace, L: Ledger>(
     alloc: Global,
     space: &mut S,
     within: u32,

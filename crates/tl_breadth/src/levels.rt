@@ -9,7 +9,9 @@ ghost use Rattle.tl_breadth.specs.Outcomes.{IsAtRootIn, IsAtLevelIn, LeavesLevel
 
 use std::alloc::Global;
 use std::sync::ledger::Ledger;
-use tl_search::{Arrival, Event, Events, Outcome, Pairs, SearchFault, report_root, root_fault};
+use tl_search::{
+    Arrival, Event, Events, Outcome, SearchFault, SearchSpace, report_root, root_fault,
+};
 use tl_terms::Steps;
 
 /// What a search is given, and does not change.
@@ -19,13 +21,13 @@ pub struct BreadthFirst {
     pub alloc: Global,
     /// How many actions a plan may have.
     pub within: u32,
-    /// How many pairs may be kept.
+    /// How many search nodes may be kept.
     pub nodes: usize,
     /// Whether events are wanted.
     pub watch: bool,
 }
 
-/// Kept pairs of one distance, by their numbers.
+/// Kept search nodes of one distance, by their numbers.
 #[derive(Clone, Copy)]
 pub struct Level {
     /// The first of them.
@@ -38,7 +40,7 @@ pub struct Level {
 
 impl BreadthFirst {
     /// The root, and then all levels.
-    pub fn outcome<S: Pairs, L: Ledger>(
+    pub fn outcome<S: SearchSpace, L: Ledger>(
         &self,
         space: &mut S,
         events: &mut Events,
@@ -80,7 +82,7 @@ impl BreadthFirst {
     }
 
     /// From the root on.
-    fn all_levels<S: Pairs, L: Ledger>(
+    fn all_levels<S: SearchSpace, L: Ledger>(
         &self,
         space: &mut S,
         events: &mut Events,
@@ -122,8 +124,8 @@ impl BreadthFirst {
         }
     }
 
-    /// All pairs of a level are expanded.
-    fn expand_level<S: Pairs, L: Ledger>(
+    /// All search nodes of a level are expanded.
+    fn expand_level<S: SearchSpace, L: Ledger>(
         &self,
         space: &mut S,
         level: Level,

@@ -1,4 +1,4 @@
-// What a search does with the pair whose turn it is.
+// What a search does with the search node whose turn it is.
 ghost use Rattle.std.specs.Prelude.{◌≡◌, ◌+◌, IfOk, IfErr, OnOk, OnErr};
 ghost use Rattle.tl_search.specs.NamedAnswers.{IsNamedIn, EndIsNamed, FaultIsNamed, EventsAreNamed};
 ghost use Rattle.tl_breadth.specs.Events.{TicksArrivalIn, Ticks, ReportsArrivalIn, ReportsTurnIn};
@@ -10,14 +10,15 @@ ghost use Rattle.tl_breadth.specs.Outcomes.{LeavesNext, LeavesTried, LeavesUnacc
 use crate::levels::BreadthFirst;
 use std::sync::ledger::Ledger;
 use tl_search::{
-    Arrival, Events, Outcome, Pairs, SearchFault, child_fault, pair_fault, report_arrival,
+    Arrival, Events, Outcome, SearchFault, SearchSpace, child_fault, report_arrival,
+    search_node_fault,
 };
 use tl_syntax::Action;
 use tl_terms::Steps;
 
 impl BreadthFirst {
-    /// All actions of the pair whose turn it is are tried.
-    pub fn expand<S: Pairs, L: Ledger>(
+    /// All actions of the search node whose turn it is are tried.
+    pub fn expand<S: SearchSpace, L: Ledger>(
         &self,
         space: &mut S,
         at: usize,
@@ -45,7 +46,7 @@ impl BreadthFirst {
     {
         let actions = match space.actions(at) {
             Ok(actions) => actions,
-            Err(fault) => return Err(pair_fault(self.alloc, space, at, fault)),
+            Err(fault) => return Err(search_node_fault(self.alloc, space, at, fault)),
         };
         for a in actions.as_slice() {
             match self.arrive(space, at, a, events, steps)? {
@@ -56,8 +57,8 @@ impl BreadthFirst {
         Ok(None)
     }
 
-    /// The pair after an action of the pair whose turn it is arrives.
-    fn arrive<S: Pairs, L: Ledger>(
+    /// The search node after an action of the search node whose turn it is arrives.
+    fn arrive<S: SearchSpace, L: Ledger>(
         &self,
         space: &mut S,
         at: usize,
@@ -102,9 +103,9 @@ impl BreadthFirst {
         }
     }
 
-    /// The last pair that was kept ends the search where there are too many or where it is
+    /// The last search node that was kept ends the search where there are too many or where it is
     /// accepted.
-    pub fn outcome_at<S: Pairs>(
+    pub fn outcome_at<S: SearchSpace>(
         &self,
         space: &mut S,
         k: usize,
@@ -130,7 +131,7 @@ impl BreadthFirst {
                 Ok(Some(Outcome::Plan(plan)))
             }
             Ok(false) => Ok(None),
-            Err(fault) => Err(pair_fault(self.alloc, space, k, fault)),
+            Err(fault) => Err(search_node_fault(self.alloc, space, k, fault)),
         }
     }
 }

@@ -10,13 +10,13 @@ use crate::proof::Proof;
 use crate::verdict::NoneVerdict;
 use std::alloc::Global;
 use std::sync::ledger::Ledger;
-use tl_search::{Pairs, SearchFault};
+use tl_search::{SearchFault, SearchSpace};
 use tl_terms::Steps;
 
 /// The verdict on a proof that there is no plan, over a space in which nothing is kept; no search
 /// stands behind it. The links are listed in their order, and then the listed nodes are judged:
 /// each action of a node that has to be closed is tried once.
-pub fn check_none<S: Pairs, L: Ledger>(
+pub fn check_none<S: SearchSpace, L: Ledger>(
     alloc: Global,
     space: &mut S,
     proof: &Proof,

@@ -6,7 +6,7 @@ ghost use Rattle.tl_cert.specs.Links.{ListsRoot};
 
 use crate::known::NodeActions;
 use std::alloc::{AllocError, Global};
-use tl_search::{Arrival, Pairs, SearchFault, root_fault};
+use tl_search::{Arrival, SearchFault, SearchSpace, root_fault};
 use tl_syntax::Numbers32;
 
 /// What is known while a proof is checked, beside the nodes that the space keeps. Until all links
@@ -33,7 +33,7 @@ fn root_depth(alloc: Global) -> Result<Numbers32, AllocError>
 }
 
 /// Lists the node of the empty path, unless its residual is FALSE, and gives its depth.
-fn list_root<S: Pairs>(alloc: Global, space: &mut S) -> Result<Numbers32, SearchFault>
+fn list_root<S: SearchSpace>(alloc: Global, space: &mut S) -> Result<Numbers32, SearchFault>
     requires { S.kept space.old ≡ [] }
     ensures task { S.task space.new ≡ S.task space.old }
     ensures problem { S.problem space.new ≡ S.problem space.old }
@@ -55,7 +55,7 @@ impl Checking {
     ghost use Rattle.tl_cert.specs.Checking.{IsRightSoFar};
 
     /// Lists the node of the empty path, unless its residual is FALSE.
-    pub(crate) fn begin<S: Pairs>(
+    pub(crate) fn begin<S: SearchSpace>(
         alloc: Global,
         space: &mut S,
         bound: Option<u32>,

@@ -8,7 +8,7 @@ use crate::checking::Checking;
 use crate::known::listed;
 use crate::verdict::NoneVerdict;
 use std::sync::ledger::Ledger;
-use tl_search::{Arrival, Pairs, SearchFault, child_fault, pair_fault};
+use tl_search::{Arrival, SearchFault, SearchSpace, child_fault, search_node_fault};
 use tl_syntax::Action;
 use tl_terms::Steps;
 
@@ -30,7 +30,7 @@ impl Checking {
 
     /// Whether an action of a node leads to the residual FALSE or to a listed node. Where it does
     /// not, one node more may be kept.
-    fn stays_inside<S: Pairs, L: Ledger>(
+    fn stays_inside<S: SearchSpace, L: Ledger>(
         &self,
         space: &mut S,
         at: usize,
@@ -60,7 +60,7 @@ impl Checking {
     }
 
     /// The first action of a node that leads out, where there is one.
-    fn first_out<S: Pairs, L: Ledger>(
+    fn first_out<S: SearchSpace, L: Ledger>(
         &self,
         space: &mut S,
         at: usize,
@@ -88,7 +88,7 @@ impl Checking {
     }
 
     /// Whether a node is accepted.
-    fn accepted<S: Pairs>(&self, space: &mut S, at: usize) -> Result<bool, SearchFault>
+    fn accepted<S: SearchSpace>(&self, space: &mut S, at: usize) -> Result<bool, SearchFault>
         requires at { at < length (S.kept space.old) }
         ensures task { S.task space.new ≡ S.task space.old }
         ensures problem { S.problem space.new ≡ S.problem space.old }
@@ -100,12 +100,12 @@ impl Checking {
     {
         match space.accepted(at) {
             Ok(accepted) => Ok(accepted),
-            Err(fault) => Err(pair_fault(self.alloc, space, at, fault)),
+            Err(fault) => Err(search_node_fault(self.alloc, space, at, fault)),
         }
     }
 
     /// Why a node is not right, where it is not.
-    fn judge<S: Pairs, L: Ledger>(
+    fn judge<S: SearchSpace, L: Ledger>(
         &self,
         space: &mut S,
         at: usize,
@@ -138,7 +138,7 @@ impl Checking {
     }
 
     /// Why the first node that is not right is not, where there is one.
-    pub(crate) fn verdict<S: Pairs, L: Ledger>(
+    pub(crate) fn verdict<S: SearchSpace, L: Ledger>(
         &self,
         space: &mut S,
         steps: &mut Steps<L>,

@@ -6,7 +6,7 @@ ghost use Rattle.tl_search.specs.Calls.{IsExecutableAt};
 ghost use Rattle.tl_cert.specs.Checking.{AreActionsAt, AreKnownActions, IsListingFault};
 
 use std::alloc::Global;
-use tl_search::{Pairs, SearchFault, pair_fault};
+use tl_search::{SearchFault, SearchSpace, search_node_fault};
 use tl_syntax::{Action, Actions};
 
 /// The executable actions of a node, which stay known while links that start from it come one after
@@ -32,7 +32,7 @@ fn is_among(a: &Action, actions: &[Action]) -> bool
 }
 
 /// The actions of a node, listed anew.
-pub(crate) fn listed<S: Pairs>(
+pub(crate) fn listed<S: SearchSpace>(
     alloc: Global,
     space: &mut S,
     at: usize,
@@ -49,12 +49,12 @@ pub(crate) fn listed<S: Pairs>(
 {
     match space.actions(at) {
         Ok(actions) => Ok(NodeActions { at, actions }),
-        Err(fault) => Err(pair_fault(alloc, space, at, fault)),
+        Err(fault) => Err(search_node_fault(alloc, space, at, fault)),
     }
 }
 
 /// The actions of a node: those that are known last, or else listed anew.
-pub(crate) fn known_at<S: Pairs>(
+pub(crate) fn known_at<S: SearchSpace>(
     alloc: Global,
     space: &mut S,
     at: usize,
@@ -86,7 +86,7 @@ pub(crate) fn known_at<S: Pairs>(
 }
 
 /// Whether the action has a step at the node, whose actions are known from now on.
-pub(crate) fn has_step<S: Pairs>(
+pub(crate) fn has_step<S: SearchSpace>(
     alloc: Global,
     space: &mut S,
     at: usize,

@@ -9,7 +9,7 @@ use crate::checking::Checking;
 use crate::known::has_step;
 use crate::proof::Link;
 use std::sync::ledger::Ledger;
-use tl_search::{Arrival, Pairs, SearchFault, child_fault};
+use tl_search::{Arrival, SearchFault, SearchSpace, child_fault};
 use tl_terms::Steps;
 
 impl Checking {
@@ -31,7 +31,7 @@ impl Checking {
     }
 
     /// Lists the node of a link, where the link is good.
-    fn list<S: Pairs, L: Ledger>(
+    fn list<S: SearchSpace, L: Ledger>(
         &mut self,
         space: &mut S,
         link: &Link,
@@ -75,7 +75,7 @@ impl Checking {
 
     /// Lists the nodes of the links, up to the first that is not good, whose number is counted from
     /// 1.
-    pub(crate) fn list_all<S: Pairs, L: Ledger>(
+    pub(crate) fn list_all<S: SearchSpace, L: Ledger>(
         &mut self,
         space: &mut S,
         links: &[Link],

@@ -96,8 +96,8 @@ fn head(form: &Form) -> Result<Option<u32>, FormFault>
     }
 }
 
-/// The number of the pair of a link with these three elements, with its offset, and the form of its
-/// action; other elements are no link.
+/// The number of the search node of a link with these three elements, with its offset, and the form
+/// of its action; other elements are no link.
 #[tactic(auto, using(crate::proofs::Rulesets::form_trees))]
 fn three_parts<'a>(word: &Form, from: &Form, action: &'a Form) -> Option<(i64, u32, &'a Form)>
     ensures { option_map (λ parts. (parts.0, parts.1, tree_of parts.2.now)) result

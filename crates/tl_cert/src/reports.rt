@@ -6,10 +6,10 @@ ghost use Rattle.tl_cert.specs.Reports.{bound_of, links_of, IsNoneReport, HasSma
 
 use crate::proof::{Link, Links, Proof};
 use std::alloc::Global;
-use tl_search::{Event, Outcome, Pairs, Report};
+use tl_search::{Event, Outcome, Report, SearchSpace};
 use tl_syntax::{Action, NoMemory};
 
-/// Adds the link by the action of the pair of this number.
+/// Adds the link by the action of the search node of this number.
 fn add_link(alloc: Global, links: &mut Links, from: usize, action: &Action) -> Result<(), NoMemory>
     requires { from < 2 ^ 32 }
     ensures { OnOk result
@@ -23,7 +23,7 @@ fn add_link(alloc: Global, links: &mut Links, from: usize, action: &Action) -> R
     Ok(())
 }
 
-/// Adds the link of an event that keeps a pair after the root.
+/// Adds the link of an event that keeps a search node after the root.
 fn add_event(alloc: Global, links: &mut Links, event: &Event) -> Result<(), NoMemory>
     requires { HasSmallStart event.now }
     ensures { OnOk result (links.new ≡ links.old ++ links_of (event.now ∷ [])) }
@@ -50,9 +50,9 @@ fn bound_of(within: u32, outcome: &Outcome) -> Option<u32>
 }
 
 /// The proof that a breadth-first search within so many actions leaves which found that there is no
-/// plan: its links are the events that keep a pair, and it has a bound where the search was cut off
-/// by its own. The space is the one that was searched. It fails for want of memory alone.
-pub fn certificate<S: Pairs>(
+/// plan: its links are the events that keep a search node, and it has a bound where the search was
+/// cut off by its own. The space is the one that was searched. It fails for want of memory alone.
+pub fn certificate<S: SearchSpace>(
     alloc: Global,
     space: &S,
     report: &Report,

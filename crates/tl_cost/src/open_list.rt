@@ -1,4 +1,5 @@
-// The open list: the kept pairs that are still to be settled, in the order in which they are.
+// The open list: the kept search nodes that are still to be settled, in the order in which they
+// are.
 ghost use Rattle.std.specs.Prelude.{◌≡◌, ◌+◌, true, false, IfNone, IfSome, OnOk};
 ghost use Rattle.tl_cost.specs.Ways.{is_listed, listed_len, Adds, Drops, IsFirstOf};
 ghost use Rattle.tl_cost.specs.declared.open_list.Entry.{Entry};
@@ -7,8 +8,8 @@ use std::alloc::Global;
 use std::collections::BTreeSet;
 use tl_syntax::NoMemory;
 
-/// A kept pair that is still to be settled. Entries are ordered by cost, then by length, and then
-/// by number.
+/// A kept search node that is still to be settled. Entries are ordered by cost, then by length, and
+/// then by number.
 #[derive(Clone, Copy, PartialEq, Eq, PartialOrd, Ord)]
 pub(crate) struct Entry {
     /// The cost of its way.
@@ -19,7 +20,8 @@ pub(crate) struct Entry {
     pub(crate) number: usize,
 }
 
-/// The pairs that are still to be settled (the open list of uniform-cost search; Dijkstra 1959).
+/// The search nodes that are still to be settled (the open list of uniform-cost search; Dijkstra
+/// 1959).
 #[derive(Drop)]
 pub(crate) struct OpenList {
     pub(crate) entries: BTreeSet<Entry>,

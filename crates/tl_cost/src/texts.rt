@@ -35,9 +35,9 @@ fn plan_text(
     Ok(text)
 }
 
-/// The lines of what a search for a cheapest plan among at most `nodes` pairs answers: of a plan
-/// its number of actions and its cost, and then a line for each action; every other answer is one
-/// line. The actions of a plan have to be those of the problem, with its names.
+/// The lines of what a search for a cheapest plan among at most `nodes` search nodes answers: of a
+/// plan its number of actions and its cost, and then a line for each action; every other answer is
+/// one line. The actions of a plan have to be those of the problem, with its names.
 pub fn cost_text(
     alloc: Global,
     problem: &Problem,

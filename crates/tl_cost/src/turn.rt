@@ -1,4 +1,4 @@
-// What a search does with the pair whose turn it is.
+// What a search does with the search node whose turn it is.
 ghost use Rattle.std.specs.Prelude.{◌≡◌, ◌≤◌, ◌<◌, ◌+◌, List, [], ◌∷◌, ◌++◌, length, Some, None, IfOk, IfErr, OnOk};
 ghost use Rattle.tl_syntax.specs.declared.action.Action.{Action};
 ghost use Rattle.tl_search.specs.Calls.{IsExecutableAt};
@@ -14,7 +14,7 @@ use crate::ways::{Found, LastStep, Way};
 use std::alloc::Global;
 use std::sync::ledger::Ledger;
 use tl_eval::RangeNote;
-use tl_search::{Arrival, Pairs, SearchFault, SpaceFault};
+use tl_search::{Arrival, SearchFault, SearchSpace, SpaceFault};
 use tl_syntax::{Action, Actions, NoMemory};
 use tl_terms::Steps;
 
@@ -25,13 +25,14 @@ pub(crate) struct UniformCost<'a> {
     pub(crate) alloc: Global,
     /// The cost of each operator.
     pub(crate) costs: &'a Costs,
-    /// How many pairs may be kept.
+    /// How many search nodes may be kept.
     pub(crate) nodes: usize,
 }
 
 impl UniformCost<'_> {
-    /// The pair that is settled ends the search where it is accepted; else its actions are tried.
-    pub(crate) fn settle<S: Pairs, L: Ledger>(
+    /// The search node that is settled ends the search where it is accepted; else its actions are
+    /// tried.
+    pub(crate) fn settle<S: SearchSpace, L: Ledger>(
         &self,
         space: &mut S,
         found: &mut Found,
@@ -75,9 +76,9 @@ impl UniformCost<'_> {
         }
     }
 
-    /// All actions of the pair whose turn it is are tried. Answers whether a pair came that is one
-    /// too many.
-    fn expand<S: Pairs, L: Ledger>(
+    /// All actions of the search node whose turn it is are tried. Answers whether a search node
+    /// came that is one too many.
+    fn expand<S: SearchSpace, L: Ledger>(
         &self,
         space: &mut S,
         found: &mut Found,
@@ -117,9 +118,9 @@ impl UniformCost<'_> {
         Ok(false)
     }
 
-    /// The pair after an action of the pair whose turn it is arrives. Answers whether it is one too
-    /// many.
-    fn arrive<S: Pairs, L: Ledger>(
+    /// The search node after an action of the search node whose turn it is arrives. Answers whether
+    /// it is one too many.
+    fn arrive<S: SearchSpace, L: Ledger>(
         &self,
         space: &mut S,
         found: &mut Found,
@@ -167,7 +168,7 @@ impl UniformCost<'_> {
         }
     }
 
-    /// The way to a pair with one more action.
+    /// The way to a search node with one more action.
     fn way_after(&self, found: &Found, at: usize, a: &Action) -> Result<Way, NoMemory>
         requires { HasRoomAfter found.now at }
         ensures { IfOk result
@@ -182,8 +183,8 @@ impl UniformCost<'_> {
         })
     }
 
-    /// A kept pair is met again by an action: its way is replaced where the cost, or at the same
-    /// cost the length, falls.
+    /// A kept search node is met again by an action: its way is replaced where the cost, or at the
+    /// same cost the length, falls.
     fn meet(&self, found: &mut Found, at: usize, a: &Action, k: usize) -> Result<(), NoMemory>
         requires room { HasRoomAfter found.old at }
         requires met { ForWay found.old at (λ w. IsMet self.now.costs.now found.old w a.now k) }
@@ -201,7 +202,7 @@ impl UniformCost<'_> {
     }
 }
 
-/// The fault of an operation past range in the world of a pair; or want of memory.
+/// The fault of an operation past range in the world of a search node; or want of memory.
 fn range_at(alloc: Global, found: &Found, at: usize, note: RangeNote) -> SearchFault
     requires at { at < length found.now.ways.items }
     requires linked { AreLinked found.now.ways.items }
@@ -213,7 +214,8 @@ fn range_at(alloc: Global, found: &Found, at: usize, note: RangeNote) -> SearchF
     }
 }
 
-/// The fault of an operation past range in the world after an action of a pair; or want of memory.
+/// The fault of an operation past range in the world after an action of a search node; or want of
+/// memory.
 fn range_after(alloc: Global, found: &Found, at: usize, a: &Action, note: RangeNote) -> SearchFault
     requires at { at < length found.now.ways.items }
     requires linked { AreLinked found.now.ways.items }
@@ -225,7 +227,7 @@ fn range_after(alloc: Global, found: &Found, at: usize, a: &Action, note: RangeN
     }
 }
 
-/// The path that the ways give to a pair, with one more action.
+/// The path that the ways give to a search node, with one more action.
 fn path_after(alloc: Global, found: &Found, at: usize, a: &Action) -> Result<Actions, NoMemory>
     requires at { at < length found.now.ways.items }
     requires linked { AreLinked found.now.ways.items }

@@ -11,12 +11,12 @@ use crate::turn::UniformCost;
 use crate::ways::{Found, Way};
 use std::alloc::Global;
 use std::sync::ledger::Ledger;
-use tl_search::{Arrival, Pairs, SearchFault, root_fault};
+use tl_search::{Arrival, SearchFault, SearchSpace, root_fault};
 use tl_terms::Steps;
 
 impl UniformCost<'_> {
-    /// The root, and then the pairs in their turns.
-    fn outcome<S: Pairs, L: Ledger>(
+    /// The root, and then the search nodes in their turns.
+    fn outcome<S: SearchSpace, L: Ledger>(
         &self,
         space: &mut S,
         steps: &mut Steps<L>,
@@ -47,9 +47,9 @@ impl UniformCost<'_> {
         }
     }
 
-    /// The open pairs are settled one after another, the one of the least cost first, and of those
-    /// one of the least length.
-    fn all_turns<S: Pairs, L: Ledger>(
+    /// The open search nodes are settled one after another, the one of the least cost first, and of
+    /// those one of the least length.
+    fn all_turns<S: SearchSpace, L: Ledger>(
         &self,
         space: &mut S,
         found: &mut Found,
@@ -79,10 +79,10 @@ impl UniformCost<'_> {
     }
 }
 
-/// A plan of the least cost, and there of the fewest actions, among at most `nodes` pairs, by
-/// uniform-cost search (Dijkstra 1959). A plan costs the sum of the costs of its actions'
-/// operators. `Spent` comes with one pair too many. Each action of a pair is tried at most once.
-pub fn cheapest<S: Pairs, L: Ledger>(
+/// A plan of the least cost, and there of the fewest actions, among at most `nodes` search nodes,
+/// by uniform-cost search (Dijkstra 1959). A plan costs the sum of the costs of its actions'
+/// operators. `Spent` comes with one node too many. Each action of a node is tried at most once.
+pub fn cheapest<S: SearchSpace, L: Ledger>(
     alloc: Global,
     space: &mut S,
     costs: &Costs,

@@ -1,4 +1,4 @@
-// The cheapest ways that were found so far, and which pairs are still to be settled.
+// The cheapest ways that were found so far, and which search nodes are still to be settled.
 ghost use Rattle.std.specs.Prelude.{◌≡◌, ◌+◌, ◌<◌, ◌++◌, ◌∷◌, [], true, false, length, None, IfOk, OnOk};
 ghost use Rattle.std.specs.List.{slice_set};
 ghost use Rattle.tl_cost.specs.declared.open_list.Entry.{Entry};
@@ -11,13 +11,13 @@ use tl_syntax::{Action, Actions, NoMemory};
 /// The last step of a way.
 #[derive(Drop)]
 pub(crate) struct LastStep {
-    /// The number of the pair before it.
+    /// The number of the search node before it.
     pub(crate) from: usize,
     /// The action.
     pub(crate) action: Action,
 }
 
-/// The cheapest way to a pair that was found so far.
+/// The cheapest way to a search node that was found so far.
 #[derive(Drop)]
 pub(crate) struct Way {
     /// The sum of the costs of its actions.
@@ -28,12 +28,12 @@ pub(crate) struct Way {
     pub(crate) last: Option<LastStep>,
 }
 
-/// The cheapest ways that were found so far, and the pairs that are still to be settled.
+/// The cheapest ways that were found so far, and the search nodes that are still to be settled.
 #[derive(Drop)]
 pub(crate) struct Found {
-    /// A way to each kept pair, by their numbers.
+    /// A way to each kept search node, by their numbers.
     pub(crate) ways: Vec<Way>,
-    /// The pairs that are not settled, each with its way.
+    /// The search nodes that are not settled, each with its way.
     pub(crate) open_list: OpenList,
 }
 
@@ -49,7 +49,7 @@ impl Way {
         }
     }
 
-    /// The pair of this number, which has this way, as the open list has it.
+    /// The search node of this number, which has this way, as the open list has it.
     fn entry(&self, number: usize) -> Entry
         ensures { result ≡ entry_of self.now number }
     {
@@ -82,7 +82,7 @@ impl Found {
         }
     }
 
-    /// Adds the way to the next pair, which is open.
+    /// Adds the way to the next search node, which is open.
     pub(crate) fn add(&mut self, way: Way) -> Result<(), NoMemory>
         requires { is_listed self.old.open_list (entry_of way (length self.old.ways.items))
             ≡ false }
@@ -98,7 +98,7 @@ impl Found {
         Ok(())
     }
 
-    /// Replaces the way to an open pair.
+    /// Replaces the way to an open search node.
     pub(crate) fn replace(&mut self, at: usize, way: Way) -> Result<(), NoMemory>
         requires at { at < length self.old.ways.items }
         requires was { ForWay self.old at
@@ -118,7 +118,7 @@ impl Found {
         Ok(())
     }
 
-    /// The path that the last steps of the ways give to a pair.
+    /// The path that the last steps of the ways give to a search node.
     pub(crate) fn path_to(&self, alloc: Global, at: usize) -> Result<Actions, NoMemory>
         requires at { at < length self.now.ways.items }
         requires linked { AreLinked self.now.ways.items }

@@ -9,13 +9,13 @@ use crate::expansions::Expansions;
 use crate::stack::DepthFirst;
 use std::alloc::Global;
 use std::sync::ledger::Ledger;
-use tl_search::{Events, Pairs, Report, SearchFault};
+use tl_search::{Events, Report, SearchFault, SearchSpace};
 use tl_terms::Steps;
 
-/// Depth-first search for a plan of at most `within` actions, among at most `nodes` pairs (Bacchus
-/// and Kabanza 2000): the first accepted plan in action order that repeats no pair. `Spent` comes
-/// with the pair that is one too many; where `watch` is true each arrival has an event.
-pub fn search<S: Pairs, L: Ledger>(
+/// Depth-first search for a plan of at most `within` actions, among at most `nodes` search nodes
+/// (Bacchus and Kabanza 2000): the first accepted plan in action order that repeats no search node.
+/// `Spent` comes with one too many; where `watch` is true each arrival has an event.
+pub fn search<S: SearchSpace, L: Ledger>(
     alloc: Global,
     space: &mut S,
     within: u32,

@@ -1,4 +1,4 @@
-// What the search remembers of the pairs' actions, and of what came of these.
+// What the search remembers of the search nodes' actions, and of what came of these.
 ghost use Rattle.std.specs.Prelude.{◌≡◌, ◌<◌, ◌⊎◌, length, Some, None, IfOk, IfSome, OnOk};
 ghost use Rattle.tl_depth.specs.Expansions.{StayExpansions, as_seen, AddsAt, KnowsNothing, KnowsActions, KnowsArrival, GainsActions, GainsArrival};
 
@@ -7,7 +7,7 @@ use std::alloc::Global;
 use tl_search::Arrival;
 use tl_syntax::NoMemory;
 
-/// What is remembered of a pair.
+/// What is remembered of a search node.
 #[derive(Drop)]
 pub struct Expansion {
     /// Whether some action of it was tried before it was entered last.
@@ -18,7 +18,7 @@ pub struct Expansion {
     pub arrivals: Vec<Arrival>,
 }
 
-/// What comes of an action when it is tried again: the pair that was kept then is seen.
+/// What comes of an action when it is tried again: the search node that was kept then is seen.
 fn seen_again(arrival: Arrival) -> Arrival
     ensures { result ≡ as_seen arrival }
 {
@@ -29,8 +29,8 @@ fn seen_again(arrival: Arrival) -> Arrival
 }
 
 impl Expansion {
-    /// The pair is entered. Its actions are given out, where they are known, so that they are known
-    /// no longer.
+    /// The search node is entered. Its actions are given out, where they are known, so that they
+    /// are known no longer.
     fn enter(&mut self) -> Option<PackedActions>
         ensures result { result ≡ self.old.actions }
         ensures actions { self.new.actions ≡ None }
@@ -40,8 +40,8 @@ impl Expansion {
         self.actions.take()
     }
 
-    /// The pair is left. Its actions are known from now on, where it was entered again; a pair that
-    /// is entered once takes no memory for them.
+    /// The search node is left. Its actions are known from now on, where it was entered again; a
+    /// search node that is entered once takes no memory for them.
     fn leave(&mut self, actions: PackedActions)
         ensures actions { (self.new.actions ≡ self.old.actions) ⊎ (self.new.actions ≡ Some actions) }
         ensures arrivals { self.new.arrivals.items ≡ self.old.arrivals.items }
@@ -64,10 +64,10 @@ impl Expansion {
     }
 }
 
-/// What is remembered of the kept pairs, by their numbers.
+/// What is remembered of the kept search nodes, by their numbers.
 #[derive(Drop)]
 pub struct Expansions {
-    /// That of each pair up to some number.
+    /// That of each search node up to some number.
     pub entries: Vec<Expansion>,
 }
 
@@ -81,7 +81,7 @@ impl Expansions {
         }
     }
 
-    /// Makes room for the pair of the number, of which nothing need be known.
+    /// Makes room for the search node of the number, of which nothing need be known.
     fn reach(&mut self, alloc: Global, at: usize) -> Result<(), NoMemory>
         ensures stay { StayExpansions self.old self.new }
         ensures room { OnOk result (at < length self.new.entries.items) }
@@ -99,8 +99,8 @@ impl Expansions {
         Ok(())
     }
 
-    /// The pair of the number is entered. Its actions are given out, where they are known, so that
-    /// they are known no longer.
+    /// The search node of the number is entered. Its actions are given out, where they are known,
+    /// so that they are known no longer.
     pub fn take_actions(
         &mut self,
         alloc: Global,
@@ -113,8 +113,8 @@ impl Expansions {
         Ok(self.entries[at].enter())
     }
 
-    /// The pair of the number is left. Its actions are known from now on, where it was entered
-    /// again.
+    /// The search node of the number is left. Its actions are known from now on, where it was
+    /// entered again.
     pub fn give_back(&mut self, at: usize, actions: PackedActions)
         ensures { GainsActions self.old self.new at actions }
     {
@@ -123,7 +123,7 @@ impl Expansions {
         }
     }
 
-    /// What came of the action of the pair of the number, where it is known.
+    /// What came of the action of the search node of the number, where it is known.
     pub fn arrival(&self, at: usize, tried: usize) -> Option<Arrival>
         ensures { IfSome result (KnowsArrival self.now at tried) }
     {
@@ -138,8 +138,8 @@ impl Expansions {
         Some(arrivals[tried])
     }
 
-    /// What came of the action of the pair of the number is known from now on, where that of each
-    /// action before it is known.
+    /// What came of the action of the search node of the number is known from now on, where that of
+    /// each action before it is known.
     pub fn remember_arrival(
         &mut self,
         at: usize,

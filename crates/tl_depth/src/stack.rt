@@ -1,5 +1,5 @@
-// What a search has beside its space: the stack, and with how many remaining actions each pair was
-// met.
+// What a search has beside its space: the stack, and with how many remaining actions each search
+// node was met.
 ghost use Rattle.std.specs.Prelude.{◌≡◌, [], ◌∷◌, IfOk, OnOk};
 ghost use Rattle.tl_search.specs.Faults.{IsFaultAfter, IsOfPair, TellsPair};
 ghost use Rattle.tl_depth.specs.Levels.{path_of};
@@ -24,15 +24,15 @@ pub struct DepthFirst {
     pub within: u32,
     /// Whether events are wanted.
     pub watch: bool,
-    /// Whether a kept pair is entered again where it is met with more remaining actions than ever
-    /// before: from the beginning where events are wanted, and else from the first pair on that was
-    /// met with none.
+    /// Whether a kept search node is entered again where it is met with more remaining actions than
+    /// ever before: from the beginning where events are wanted, and else from the first search node
+    /// on that was met with none.
     pub reenters: bool,
-    /// With how many remaining actions each pair was met, at most.
+    /// With how many remaining actions each search node was met, at most.
     pub most: Vec<u32>,
     /// The levels of the stack, the root's first.
     pub stack: Vec<Level>,
-    /// What is remembered of the pairs' actions.
+    /// What is remembered of the search nodes' actions.
     pub expansions: Expansions,
     /// The events so far.
     pub events: Events,
@@ -63,7 +63,7 @@ pub fn past_range(alloc: Global, levels: &[Level], note: RangeNote) -> SearchFau
     }
 }
 
-/// The fault of a call of the space that looks at the pair that the levels lead to.
+/// The fault of a call of the space that looks at the search node that the levels lead to.
 pub fn levels_fault(alloc: Global, levels: &[Level], fault: SpaceFault) -> SearchFault
     requires { IsOfPair fault }
     ensures { TellsPair (path_of levels.now) fault result }

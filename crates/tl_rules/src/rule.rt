@@ -40,7 +40,7 @@ pub enum Rule {
     ArgumentCount,
     /// The argument of an action is no value of the files.
     NotAValue,
-    /// A link of a proof file begins at a pair that no link before it makes.
+    /// A link of a proof file begins at a search node that no link before it makes.
     NoPair,
 }
 

@@ -9,8 +9,8 @@ use tl_syntax::{Actions, NoMemory};
 /// Why a search space gives no answer. What it keeps is as before the call.
 #[derive(Clone, Copy, PartialEq, Eq)]
 pub enum SpaceFault {
-    /// An operation past the 64 bits of an integer, in the world of the pair; for the root, in the
-    /// initial world.
+    /// An operation past the 64 bits of an integer, in the world of the search node; for the root,
+    /// in the initial world.
     RangeHere(RangeNote),
     /// An operation past the 64 bits of an integer, in the world after the action.
     RangeAfter(RangeNote),

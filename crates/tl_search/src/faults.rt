@@ -1,4 +1,4 @@
-// A search's faults, as they come of those of its space, with the paths of its pairs.
+// A search's faults, as they come of those of its space, with the paths of its search nodes.
 ghost use Rattle.std.specs.Prelude.{◌≡◌, ◌<◌, [], ◌∷◌, ◌++◌, length, IfOk};
 ghost use Rattle.tl_search.specs.Calls.{ForPair, AreNamedIn};
 ghost use Rattle.tl_search.specs.Faults.{IsFaultAfter, IsOfPair, TellsChild, TellsPair};
@@ -6,13 +6,13 @@ ghost use Rattle.tl_search.specs.NamedAnswers.{FaultIsNamed, IsNamedIn};
 ghost use Rattle.tl_world.specs.declared.task.Task.{Task};
 
 use crate::fault::{SearchFault, SpaceFault};
-use crate::pairs::Pairs;
+use crate::search_space::SearchSpace;
 use std::alloc::Global;
 use tl_eval::RangeNote;
 use tl_syntax::{Action, Actions, NoMemory};
 
-/// The fault of an operation past range in the world of a pair.
-fn fault_at<S: Pairs>(alloc: Global, space: &S, at: usize, note: RangeNote) -> SearchFault
+/// The fault of an operation past range in the world of a search node.
+fn fault_at<S: SearchSpace>(alloc: Global, space: &S, at: usize, note: RangeNote) -> SearchFault
     requires { at < length (S.kept space.now) }
     ensures fault { ForPair (S.kept space.now) at (λ x. IsFaultAfter x.path note result) }
     ensures named { FaultIsNamed (S.task space.now) result }
@@ -23,8 +23,8 @@ fn fault_at<S: Pairs>(alloc: Global, space: &S, at: usize, note: RangeNote) -> S
     }
 }
 
-/// The path of a pair with one action more.
-fn path_after<S: Pairs>(
+/// The path of a search node with one action more.
+fn path_after<S: SearchSpace>(
     alloc: Global,
     space: &S,
     at: usize,
@@ -42,8 +42,8 @@ fn path_after<S: Pairs>(
     Ok(path)
 }
 
-/// The fault of an operation past range in the world after an action of a pair.
-fn fault_after<S: Pairs>(
+/// The fault of an operation past range in the world after an action of a search node.
+fn fault_after<S: SearchSpace>(
     alloc: Global,
     space: &S,
     at: usize,
@@ -62,7 +62,7 @@ fn fault_after<S: Pairs>(
     }
 }
 
-/// The fault of the space at the pair of the empty path.
+/// The fault of the space at the search node of the empty path.
 pub fn root_fault(alloc: Global, fault: SpaceFault) -> SearchFault
     requires { IsOfPair fault }
     ensures fault { TellsPair [] fault result }
@@ -78,8 +78,13 @@ pub fn root_fault(alloc: Global, fault: SpaceFault) -> SearchFault
     }
 }
 
-/// The fault of a call of the space that looks at a pair.
-pub fn pair_fault<S: Pairs>(alloc: Global, space: &S, at: usize, fault: SpaceFault) -> SearchFault
+/// The fault of a call of the space that looks at a search node.
+pub fn search_node_fault<S: SearchSpace>(
+    alloc: Global,
+    space: &S,
+    at: usize,
+    fault: SpaceFault,
+) -> SearchFault
     requires at { at < length (S.kept space.now) }
     requires here { IsOfPair fault }
     ensures fault { ForPair (S.kept space.now) at (λ x. TellsPair x.path fault result) }
@@ -92,8 +97,8 @@ pub fn pair_fault<S: Pairs>(alloc: Global, space: &S, at: usize, fault: SpaceFau
     }
 }
 
-/// The fault at which an action of a pair ends.
-pub fn child_fault<S: Pairs>(
+/// The fault at which an action of a search node ends.
+pub fn child_fault<S: SearchSpace>(
     alloc: Global,
     space: &S,
     at: usize,

@@ -8,13 +8,13 @@ mod fault;
 mod faults;
 pub mod laws;
 mod outcome;
-mod pairs;
 mod reporting;
+mod search_space;
 
 pub use arrival::Arrival;
 pub use event::{Event, Events};
 pub use fault::{SearchFault, SpaceFault};
-pub use faults::{child_fault, pair_fault, root_fault};
+pub use faults::{child_fault, root_fault, search_node_fault};
 pub use outcome::{Outcome, Report};
-pub use pairs::Pairs;
 pub use reporting::{report_arrival, report_root};
+pub use search_space::SearchSpace;

@@ -2,7 +2,7 @@
 use crate::Events;
 use tl_syntax::Actions;
 
-/// What a search within a bound on the number of actions and a budget of pairs answers.
+/// What a search within a bound on the number of actions and a budget of search nodes answers.
 #[derive(Drop)]
 pub enum Outcome {
     /// An accepted plan.
@@ -11,7 +11,7 @@ pub enum Outcome {
     NoPlan,
     /// No plan within the bound is accepted; longer ones were not looked for.
     NoneWithin,
-    /// More pairs were met than the budget allows.
+    /// More search nodes were met than the budget allows.
     Spent,
 }
 

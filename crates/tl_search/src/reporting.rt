@@ -6,8 +6,8 @@ use crate::{Arrival, Event, Events};
 use std::alloc::{AllocError, Global};
 use tl_syntax::{Action, NoMemory};
 
-/// Adds the event of what came of an action from the pair `at`, where events are watched. It fails
-/// for want of memory alone, and takes none where they are not.
+/// Adds the event of what came of an action from the search node `at`, where events are watched. It
+/// fails for want of memory alone, and takes none where they are not.
 pub fn report_arrival(
     alloc: Global,
     events: &mut Events,

@@ -1,10 +1,10 @@
-// Pairs by numbers.
+// Search nodes by numbers.
 
 use tl_search::Arrival;
 use tl_syntax::Action;
 
-/// A world and a formula, each by its number: a pair, or an arrival in a world with the formula
-/// that comes in.
+/// A world and a formula, each by its number: a search node, or an arrival in a world with the
+/// formula that comes in.
 #[derive(Clone, Copy, PartialEq, Eq, Hash)]
 pub(crate) struct Numbers {
     /// The number of the world.
@@ -13,20 +13,20 @@ pub(crate) struct Numbers {
     pub(crate) label: usize,
 }
 
-/// How a pair was met first.
+/// How a search node was met first.
 #[derive(Drop)]
 pub(crate) enum Met {
     /// By the empty path.
     First,
-    /// By an action from the pair of this number.
+    /// By an action from the search node of this number.
     After(usize, Action),
 }
 
-/// What is found of an arrival before a pair is kept.
+/// What is found of an arrival before a search node is kept.
 #[derive(Clone, Copy)]
 pub(crate) enum Found {
-    /// The pair is pruned, or is kept already.
+    /// The search node is pruned, or is kept already.
     Known(Arrival),
-    /// The pair of these numbers, which is to be kept.
+    /// The search node of these numbers, which is to be kept.
     New(Numbers),
 }

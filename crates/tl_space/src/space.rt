@@ -35,9 +35,9 @@ use tl_progress::{PartPlaces, Residuals};
 use tl_syntax::NoMemory;
 use tl_world::{Task, Unmet};
 
-/// Pairs of a world and a residual, each kept once under a number, with the path by which it was
-/// met first. A pair is two numbers, kept as the last growth of a call: after a refused call the
-/// kept pairs are as before, and the same call can be made again.
+/// Search nodes of a world and a residual, each kept once under a number, with the path by which it
+/// was met first. A search node is two numbers, kept as the last growth of a call: after a refused
+/// call the kept search nodes are as before, and the same call can be made again.
 #[derive(Drop)]
 pub struct Space {
     pub(crate) alloc: Global,

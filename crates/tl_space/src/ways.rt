@@ -1,4 +1,4 @@
-// How pairs were met first, one pair after another.
+// How search nodes were met first, one search node after another.
 ghost use Rattle.std.specs.Prelude.{◌≡◌, ◌<◌, ◌≤◌, ◌++◌, ◌∷◌, [], length, slice_get, take, Some, IfOk, IfNone, IfSome, OnOk, OnErr};
 ghost use Rattle.tl_space.specs.declared.numbers.Met.TheVariants as met;
 ghost use Rattle.tl_space.specs.Ways.{met_by, IsWay};
@@ -11,10 +11,10 @@ use std::alloc::Global;
 use std::marker::Model;
 use tl_syntax::{Action, NoMemory};
 
-/// How pairs were met first, one pair after another. Contracts see the list of it.
+/// How search nodes were met first, one search node after another. Contracts see the list of it.
 ///
-/// Many pairs are met by one action, so each action is kept once, and a pair by two numbers of 32
-/// bits.
+/// Many search nodes are met by one action, so each action is kept once, and a search node by two
+/// numbers of 32 bits.
 #[derive(Drop)]
 pub(crate) struct Ways {
     actions: IndexSet<Action>,
@@ -62,7 +62,7 @@ fn way_of(actions: &mut IndexSet<Action>, met: Met) -> Result<Way, NoMemory>
 }
 
 impl Ways {
-    /// Of no pair. It takes no memory.
+    /// Of no search node. It takes no memory.
     pub(crate) fn new(alloc: Global) -> Ways
         ensures { result ≡ [] }
     {
@@ -72,14 +72,14 @@ impl Ways {
         }
     }
 
-    /// Of how many pairs.
+    /// Of how many search nodes.
     pub(crate) fn len(&self) -> usize
         ensures { result ≡ length self.now }
     {
         self.ways.len()
     }
 
-    /// Of one pair more. A refused call leaves it as it was.
+    /// Of one search node more. A refused call leaves it as it was.
     pub(crate) fn push(&mut self, met: Met) -> Result<(), NoMemory>
         ensures done { OnOk result (self.new ≡ self.old ++ met ∷ []) }
         ensures refused { OnErr result (self.new ≡ self.old) }
@@ -89,7 +89,7 @@ impl Ways {
         Ok(())
     }
 
-    /// Of the first pairs alone. It takes no memory.
+    /// Of the first search nodes alone. It takes no memory.
     pub(crate) fn truncate(&mut self, count: usize)
         requires { count ≤ length self.old }
         ensures { self.new ≡ take count self.old }
@@ -97,7 +97,8 @@ impl Ways {
         self.ways.truncate(count);
     }
 
-    /// The pair before, and the action: None for the pair of the empty path. It takes no memory.
+    /// The search node before, and the action: None for the search node of the empty path. It takes
+    /// no memory.
     pub(crate) fn last_step(&self, at: usize) -> Option<(usize, &Action)>
         requires { at < length self.now }
         ensures none { IfNone result (slice_get self.now at ≡ Some met.First) }

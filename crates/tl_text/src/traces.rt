@@ -21,7 +21,7 @@ fn put_label(label: &[u8], out: &mut Bytes) -> Result<(), AllocError>
     out.extend(b"\n")
 }
 
-/// Puts the line of the label of a pair's residual at the end.
+/// Puts the line of the label of a search node's residual at the end.
 fn put_label_of(alloc: Global, space: &Space, at: usize, out: &mut Bytes) -> Result<(), NoMemory>
     requires { at < length (kept_of space.now) }
     ensures { OnOk result (out.new ≡ out.old ++ label_line_in space.now at) }
@@ -45,7 +45,7 @@ fn put_action_end(problem: &Problem, action: &Action, out: &mut Bytes) -> Result
     Ok(())
 }
 
-/// What stands before the action where the pair `at` is kept.
+/// What stands before the action where the search node `at` is kept.
 fn kept_from(alloc: Global, from: usize, at: usize) -> Result<String, AllocError>
     ensures { IfOk result (λ text. string_bytes text ≡ codes "; kept "
         ++ (decimal at ++ (codes " " ++ decimal from))) }
@@ -53,7 +53,7 @@ fn kept_from(alloc: Global, from: usize, at: usize) -> Result<String, AllocError
     format!(in alloc; "; kept {at} {from}")
 }
 
-/// What stands before the action where the pair `at` is met again.
+/// What stands before the action where the search node `at` is met again.
 fn seen_from(alloc: Global, from: usize, at: usize) -> Result<String, AllocError>
     ensures { IfOk result (λ text. string_bytes text ≡ codes "; seen "
         ++ (decimal at ++ (codes " " ++ decimal from))) }
@@ -61,7 +61,7 @@ fn seen_from(alloc: Global, from: usize, at: usize) -> Result<String, AllocError
     format!(in alloc; "; seen {at} {from}")
 }
 
-/// What stands before the action where a pair is pruned.
+/// What stands before the action where a search node is pruned.
 fn pruned_from(alloc: Global, from: usize) -> Result<String, AllocError>
     ensures { IfOk result (λ text. string_bytes text ≡ codes "; pruned " ++ decimal from) }
 {
@@ -110,8 +110,8 @@ fn put_event(alloc: Global, space: &Space, event: &Event, out: &mut Bytes) -> Re
 }
 
 /// The lines of the events of a search, in their order, before those of what it answers: a kept
-/// pair is followed by a line with the label of its residual. Actions and pairs have to be those of
-/// the space. It fails for want of memory alone.
+/// search node is followed by a line with the label of its residual. Actions and search nodes have
+/// to be those of the space. It fails for want of memory alone.
 pub fn trace_text(alloc: Global, space: &Space, events: &[Event]) -> Result<Bytes, NoMemory>
     requires { AreWritableIn space.now events.now }
     ensures { IfOk result (λ text. text ≡ trace_text_in space.now events.now) }

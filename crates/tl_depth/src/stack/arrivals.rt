@@ -1,4 +1,4 @@
-// What comes of an arrival: it is passed, enters a pair, or ends the search.
+// What comes of an arrival: it is passed, enters a search node, or ends the search.
 ghost use Rattle.std.specs.Prelude.{◌≡◌, ◌<◌, length, None, IfOk, IfErr, IfSome, OnOk};
 ghost use Rattle.tl_depth.specs.Levels.{path_of};
 ghost use Rattle.tl_search.specs.KeptPairs.{pairs_of};
@@ -15,12 +15,12 @@ use crate::level::Level;
 use crate::packed::PackedActions;
 use crate::stack::{DepthFirst, levels_fault, path};
 use std::alloc::Global;
-use tl_search::{Arrival, Outcome, Pairs, SearchFault};
+use tl_search::{Arrival, Outcome, SearchFault, SearchSpace};
 use tl_syntax::NoMemory;
 
 impl DepthFirst {
     /// What comes of an arrival.
-    pub fn arrived<S: Pairs>(
+    pub fn arrived<S: SearchSpace>(
         &mut self,
         alloc: Global,
         space: &mut S,
@@ -66,7 +66,7 @@ impl DepthFirst {
     }
 
     /// The arrival is pruned.
-    fn pruned<S: Pairs>(&mut self, space: &S, nodes: usize, left: u32)
+    fn pruned<S: SearchSpace>(&mut self, space: &S, nodes: usize, left: u32)
         requires arrived { HasArrived (S.problem space.now) nodes (S.kept space.now) self.old arrival.Pruned left }
         requires named { SearchIsNamed (S.task space.now) self.old }
         ensures turned { TurnsBy (S.problem space.now) nodes (S.kept space.now) self.old self.new arrival.Pruned left None }
@@ -77,8 +77,8 @@ impl DepthFirst {
         self.pass();
     }
 
-    /// The arrival is a pair that is kept.
-    fn seen<S: Pairs>(
+    /// The arrival is a search node that is kept.
+    fn seen<S: SearchSpace>(
         &mut self,
         alloc: Global,
         space: &mut S,
@@ -113,8 +113,8 @@ impl DepthFirst {
         self.enter(alloc, space, k, left)
     }
 
-    /// The pair that was kept is neither too many nor accepted.
-    fn fresh<S: Pairs>(
+    /// The search node that was kept is neither too many nor accepted.
+    fn fresh<S: SearchSpace>(
         &mut self,
         alloc: Global,
         space: &mut S,
@@ -149,8 +149,8 @@ impl DepthFirst {
         self.enter(alloc, space, k, left)
     }
 
-    /// The pair that was kept is too many, or accepted.
-    fn outcome_at<S: Pairs>(
+    /// The search node that was kept is too many, or accepted.
+    fn outcome_at<S: SearchSpace>(
         &self,
         alloc: Global,
         space: &mut S,
@@ -181,8 +181,8 @@ impl DepthFirst {
         }
     }
 
-    /// A pair is entered.
-    pub fn enter<S: Pairs>(
+    /// A search node is entered.
+    pub fn enter<S: SearchSpace>(
         &mut self,
         alloc: Global,
         space: &mut S,
@@ -219,9 +219,9 @@ impl DepthFirst {
         Ok(())
     }
 
-    /// The executable actions of a pair: those that are remembered, or else those that the space
-    /// lists.
-    fn actions_of<S: Pairs>(
+    /// The executable actions of a search node: those that are remembered, or else those that the
+    /// space lists.
+    fn actions_of<S: SearchSpace>(
         &mut self,
         alloc: Global,
         space: &mut S,
@@ -250,8 +250,8 @@ impl DepthFirst {
         }
     }
 
-    /// The executable actions of a pair, where they are remembered. While no pair is entered again
-    /// nothing is, and no memory is taken for it.
+    /// The executable actions of a search node, where they are remembered. While no search node is
+    /// entered again nothing is, and no memory is taken for it.
     fn remembered_actions(
         &mut self,
         alloc: Global,

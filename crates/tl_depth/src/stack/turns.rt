@@ -14,12 +14,12 @@ ghost use Rattle.tl_depth.specs.Turns.{SearchGoesOn, Turns, TriesTop, CallsStayF
 use crate::stack::{DepthFirst, past_range};
 use std::alloc::Global;
 use std::sync::ledger::Ledger;
-use tl_search::{Arrival, Outcome, Pairs, SearchFault, SpaceFault};
+use tl_search::{Arrival, Outcome, SearchFault, SearchSpace, SpaceFault};
 use tl_terms::Steps;
 
 impl DepthFirst {
     /// The top level takes a step.
-    pub fn turn<S: Pairs, L: Ledger>(
+    pub fn turn<S: SearchSpace, L: Ledger>(
         &mut self,
         alloc: Global,
         space: &mut S,
@@ -59,7 +59,7 @@ impl DepthFirst {
 
     /// The top level's next action is tried, and what arrives is reported: what is remembered, or
     /// else what the space answers.
-    fn attempt<S: Pairs, L: Ledger>(
+    fn attempt<S: SearchSpace, L: Ledger>(
         &mut self,
         alloc: Global,
         space: &mut S,
@@ -100,7 +100,7 @@ impl DepthFirst {
     }
 
     /// The space is asked what comes of the top level's next action, and this is reported.
-    fn call<S: Pairs, L: Ledger>(
+    fn call<S: SearchSpace, L: Ledger>(
         &mut self,
         alloc: Global,
         space: &mut S,

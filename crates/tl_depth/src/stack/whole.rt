@@ -1,4 +1,4 @@
-// The search from its first pair on until nothing is left to expand.
+// The search from its first search node on until nothing is left to expand.
 ghost use Rattle.std.specs.Prelude.{◌≡◌, ◌≤◌, ℕ, [], slice_get, Some, None, true, false, IfOk, IfErr, OnOk};
 ghost use Rattle.tl_search.specs.KeptPairs.{pairs_of};
 ghost use Rattle.tl_search.specs.NamedAnswers.{OutcomeIsNamed, EndIsNamed, FaultIsNamed, EventsAreNamed};
@@ -16,11 +16,11 @@ ghost use Rattle.tl_depth.specs.Ongoing.{HasDoneNothing, HasRootAlone, BeginsSea
 use crate::stack::DepthFirst;
 use std::alloc::Global;
 use std::sync::ledger::Ledger;
-use tl_search::{Arrival, Event, Outcome, Pairs, SearchFault, report_root, root_fault};
+use tl_search::{Arrival, Event, Outcome, SearchFault, SearchSpace, report_root, root_fault};
 use tl_syntax::Actions;
 use tl_terms::Steps;
 
-/// Whether some pair was met with no remaining action, and never with any.
+/// Whether some search node was met with no remaining action, and never with any.
 fn is_cut(most: &[u32]) -> bool
     ensures cut { result ≡ true → (k : ℕ) × (slice_get most.now k ≡ Some 0) }
     ensures uncut { result ≡ false → IsUncut most.now }
@@ -34,8 +34,8 @@ fn is_cut(most: &[u32]) -> bool
 }
 
 impl DepthFirst {
-    /// The search, from its first pair on until nothing is left to expand.
-    pub fn run<S: Pairs, L: Ledger>(
+    /// The search, from its first search node on until nothing is left to expand.
+    pub fn run<S: SearchSpace, L: Ledger>(
         &mut self,
         alloc: Global,
         space: &mut S,
@@ -73,8 +73,8 @@ impl DepthFirst {
         Ok(self.none(space, nodes))
     }
 
-    /// The first pair begins the search, or ends it.
-    fn begin<S: Pairs>(
+    /// The first search node begins the search, or ends it.
+    fn begin<S: SearchSpace>(
         &mut self,
         alloc: Global,
         space: &mut S,
@@ -115,8 +115,8 @@ impl DepthFirst {
         Ok(None)
     }
 
-    /// The first pair, which is kept and not accepted, begins the search.
-    fn begun<S: Pairs>(
+    /// The first search node, which is kept and not accepted, begins the search.
+    fn begun<S: SearchSpace>(
         &mut self,
         alloc: Global,
         space: &mut S,
@@ -149,7 +149,7 @@ impl DepthFirst {
     }
 
     /// Nothing is left to expand.
-    fn none<S: Pairs>(&self, space: &S, nodes: usize) -> Outcome
+    fn none<S: SearchSpace>(&self, space: &S, nodes: usize) -> Outcome
         requires ongoing { SearchGoesOn (S.problem space.now) nodes (S.kept space.now) self.now }
         requires none { self.now.stack.items ≡ [] }
         ensures outcome { IsDepthFirstOutcome (S.problem space.now) self.now.within nodes

@@ -13,8 +13,8 @@ pub fn pruned_events_are_right()
     ensures { EventsPruneRightly }
 {}
 
-/// Each pair that is kept in the end has the event that kept it, before every event that names it
-/// as seen.
+/// Each search node that is kept in the end has the event that kept it, before every event that
+/// names it as seen.
 pub fn kept_pairs_have_events()
     ensures { KeptPairsHaveEvents }
 {}

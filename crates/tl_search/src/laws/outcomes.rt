@@ -6,7 +6,7 @@ pub fn answers_exclude_each_other()
     ensures { AnswersExcludeEachOther }
 {}
 
-/// A search among few pairs is not spent.
+/// A search among few search nodes is not spent.
 pub fn few_pairs_are_not_spent()
     ensures { FewPairsAreNotSpent }
 {}

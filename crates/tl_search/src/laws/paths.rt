@@ -1,23 +1,23 @@
 // Open paths, accepted plans, distances and leading paths.
 ghost use Rattle.tl_search.specs.LawsPaths.{PairGoesOn, WalksHavePairs, OpenPathsAreWalks, AcceptedPlansAreWalks, PrefixesAreOpen, DistanceIsOne, PrefixesAreLeading};
 
-/// The pair of a path with one more action is the pair after that action.
+/// The search node of a path with one more action is the search node after that action.
 pub fn pair_goes_on()
     ensures { PairGoesOn }
 {}
 
-/// A walk in the graph of pairs leads to a pair exactly where it is a path with that pair, whose
-/// residual is not FALSE.
+/// A walk in the graph of search nodes leads to a search node exactly where it is a path with that
+/// search node, whose residual is not FALSE.
 pub fn walks_have_pairs()
     ensures { WalksHavePairs }
 {}
 
-/// The open paths are the walks in the graph of pairs.
+/// The open paths are the walks in the graph of search nodes.
 pub fn open_paths_are_walks()
     ensures { OpenPathsAreWalks }
 {}
 
-/// The accepted plans are the walks to accepted pairs.
+/// The accepted plans are the walks to accepted search nodes.
 pub fn accepted_plans_are_walks()
     ensures { AcceptedPlansAreWalks }
 {}
@@ -27,7 +27,7 @@ pub fn prefixes_are_open()
     ensures { PrefixesAreOpen }
 {}
 
-/// Two distances of one pair are the same.
+/// Two distances of one search node are the same.
 pub fn distance_is_one()
     ensures { DistanceIsOne }
 {}

@@ -1,4 +1,4 @@
-// Acceptance of a pair.
+// Acceptance of a search node.
 ghost use Rattle.std.specs.Prelude.{◌≡◌, ◌<◌, length, IfOk, IfErr};
 ghost use Rattle.tl_search.specs.Calls.{TellsAcceptance, IsAcceptanceFault};
 ghost use Rattle.tl_space.specs.Spaces.{problem_of, kept_of, Grows};
@@ -9,8 +9,8 @@ use tl_progress::idle;
 use tl_search::SpaceFault;
 
 impl Space {
-    /// Whether the pair is accepted: its world meets the goal, and its residual holds where that
-    /// world is repeated for ever. Nothing that is kept changes.
+    /// Whether the search node is accepted: its world meets the goal, and its residual holds where
+    /// that world is repeated for ever. Nothing that is kept changes.
     pub fn accepted(&mut self, at: usize) -> Result<bool, SpaceFault>
         requires { at < length (kept_of self.old) }
         ensures grows { Grows self.old self.new }

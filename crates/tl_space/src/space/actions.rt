@@ -1,4 +1,4 @@
-// The executable actions of a pair.
+// The executable actions of a search node.
 ghost use Rattle.std.specs.Prelude.{◌≡◌, ◌<◌, length, IfOk, IfErr};
 ghost use Rattle.tl_search.specs.Calls.{ListsActionsAt, AreNamedIn, IsActionsFault};
 ghost use Rattle.tl_space.specs.Spaces.{task_of, problem_of, kept_of, Grows};
@@ -9,7 +9,7 @@ use tl_search::SpaceFault;
 use tl_syntax::Actions;
 
 impl Space {
-    /// The executable actions of the pair, each once, in action order. Nothing that is kept
+    /// The executable actions of the search node, each once, in action order. Nothing that is kept
     /// changes.
     pub fn actions(&mut self, at: usize) -> Result<Actions, SpaceFault>
         requires { at < length (kept_of self.old) }

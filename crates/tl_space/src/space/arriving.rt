@@ -22,8 +22,8 @@ impl Space {
         self.arrivals.get(key)
     }
 
-    /// What is known of the pair of these numbers: it is pruned where its formula is FALSE, or is
-    /// kept already.
+    /// What is known of the search node of these numbers: it is pruned where its formula is FALSE,
+    /// or is kept already.
     fn known(&self, numbers: Numbers) -> Option<Arrival>
         requires { AreNumbersIn self.now numbers }
         ensures known { IfSome result (IsKnown (nodes_in self.now) (node_in self.now numbers)) }
@@ -55,7 +55,7 @@ impl Space {
         key.label == TRUE
     }
 
-    /// What is found of the arrival whose pair has its own numbers.
+    /// What is found of the arrival whose search node has its own numbers.
     fn find_itself(&self, key: Numbers) -> Found
         requires key { AreNumbersIn self.now key }
         requires itself { node_in self.now key ≡ arriving_in self.now key }
@@ -96,7 +96,8 @@ impl Space {
         }
     }
 
-    /// What is found of the arrival by progression. It is remembered where no pair is to be kept.
+    /// What is found of the arrival by progression. It is remembered where no search node is to be
+    /// kept.
     fn find_anew(&mut self, key: Numbers) -> Result<Found, EvalFault>
         requires { AreNumbersIn self.old key }
         ensures keeps { KeepsPairs self.old self.new }

@@ -1,4 +1,4 @@
-// The pair after an action.
+// The search node after an action.
 ghost use Rattle.std.specs.Prelude.{◌≡◌, ◌<◌, ◌+◌, length, IsTrue, IfOk, IfErr, IfNone, IfSome, OnErr};
 ghost use Rattle.tl_action.specs.Actions.{ArgumentsAreNamed};
 ghost use Rattle.tl_search.specs.Calls.{IsExecutableAt, ChildArrives, IsChildFault};
@@ -18,9 +18,9 @@ use tl_syntax::{Action, NoMemory};
 use tl_terms::Steps;
 
 impl Space {
-    /// The pair after an executable action of the pair `at` arrives: pruned exactly where its
-    /// residual is FALSE, seen exactly where it is kept already, and else kept under the next
-    /// number, with the path of `at` and the action. Each call counts one step.
+    /// The search node after an executable action of the search node `at` arrives: pruned exactly
+    /// where its residual is FALSE, seen exactly where it is kept already, and else kept under the
+    /// next number, with the path of `at` and the action. Each call counts one step.
     pub fn child<L: Ledger>(
         &mut self,
         at: usize,
@@ -50,8 +50,8 @@ impl Space {
         }
     }
 
-    /// The pair after an action of the pair `at` arrives, in this world with this formula. The
-    /// action is copied only for a new pair.
+    /// The search node after an action of the search node `at` arrives, in this world with this
+    /// formula. The action is copied only for a new search node.
     fn arrive_after(
         &mut self,
         key: Numbers,
@@ -82,8 +82,8 @@ impl Space {
         }
     }
 
-    /// The pair after an action of the pair `at` arrives, in this new world with this formula.
-    /// Where it is pruned the world is let go again, and nothing is remembered of it.
+    /// The search node after an action of the search node `at` arrives, in this new world with this
+    /// formula. Where it is pruned the world is let go again, and nothing is remembered of it.
     #[inline(never)]
     fn arrive_new(&mut self, key: Numbers, at: usize, a: &Action) -> Result<Arrival, EvalFault>
         requires key { AreNumbersIn self.old key }
@@ -109,7 +109,7 @@ impl Space {
         }
     }
 
-    /// Keeps the new pair of these numbers, met first by an action of the pair `at`.
+    /// Keeps the new search node of these numbers, met first by an action of the search node `at`.
     fn keep_after(
         &mut self,
         key: Numbers,
@@ -131,9 +131,9 @@ impl Space {
         self.keep(key, numbers, Met::After(at, action))
     }
 
-    /// The numbers of the world after the action and of the pair's residual, which comes in there.
-    /// None: what the action changes decides by itself that the residual leaves FALSE there, and no
-    /// world is made.
+    /// The numbers of the world after the action and of the search node's residual, which comes in
+    /// there. None: what the action changes decides by itself that the residual leaves FALSE there,
+    /// and no world is made.
     fn child_key<L: Ledger>(
         &mut self,
         at: usize,

@@ -1,4 +1,4 @@
-// One pair more.
+// One search node more.
 ghost use Rattle.std.specs.Prelude.{◌≡◌, length, IfOk, OnErr};
 ghost use Rattle.tl_space.specs.Inner.{node_in, AreNumbersIn, IsToKeep, way_in, IsWalk, IsKeptLast};
 ghost use Rattle.tl_space.specs.Kept.{IsNamedMet, MayMeet};
@@ -10,8 +10,9 @@ use tl_search::Arrival;
 use tl_syntax::NoMemory;
 
 impl Space {
-    /// Keeps the new pair of these numbers, met first in this way, and remembers its arrival. The
-    /// pair is the last growth that can fail: where it does, the way is let go again.
+    /// Keeps the new search node of these numbers, met first in this way, and remembers its
+    /// arrival. The search node is the last growth that can fail: where it does, the way is let go
+    /// again.
     pub(crate) fn keep(
         &mut self,
         key: Numbers,

@@ -1,4 +1,4 @@
-// Worlds and formulas get their numbers, and a world is let go. The pairs stay.
+// Worlds and formulas get their numbers, and a world is let go. The search nodes stay.
 ghost use Rattle.std.specs.Prelude.{◌≡◌, ◌<◌, length, slice_get, Some, IfOk, IfErr};
 ghost use Rattle.tl_action.specs.ChangedWorlds.{world_after};
 ghost use Rattle.tl_nodes.specs.Numbering.{Keeps};

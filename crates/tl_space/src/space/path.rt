@@ -1,4 +1,4 @@
-// The path of a pair.
+// The path of a search node.
 ghost use Rattle.std.specs.Prelude.{◌<◌, length, IfOk};
 ghost use Rattle.tl_search.specs.Calls.{IsPathOf, AreNamedIn};
 ghost use Rattle.tl_space.specs.Spaces.{task_of, kept_of};
@@ -8,8 +8,8 @@ use std::alloc::Global;
 use tl_syntax::{Action, Actions, NoMemory};
 
 impl Space {
-    /// The path by which the pair was met first: an open path with that pair. It fails for want of
-    /// memory alone.
+    /// The path by which the search node was met first: an open path with that search node. It
+    /// fails for want of memory alone.
     pub fn path(&self, alloc: Global, at: usize) -> Result<Actions, NoMemory>
         requires { at < length (kept_of self.now) }
         ensures path { IfOk result (IsPathOf (kept_of self.now) at) }

@@ -1,4 +1,4 @@
-// The pair of the empty path.
+// The search node of the empty path.
 ghost use Rattle.std.specs.Prelude.{◌≡◌, [], IfOk, IfErr, OnErr};
 ghost use Rattle.tl_search.specs.Calls.{RootArrives};
 ghost use Rattle.tl_search.specs.Causes.{IsRootFault};
@@ -14,9 +14,9 @@ use tl_search::{Arrival, SpaceFault};
 use tl_syntax::NoMemory;
 
 impl Space {
-    /// The pair of the empty path arrives: the initial world, with the control formula progressed
-    /// through it. It is pruned exactly where that residual is FALSE, and else kept as pair 0.
-    /// A refused call leaves nothing kept, and can be made again.
+    /// The search node of the empty path arrives: the initial world, with the control formula
+    /// progressed through it. It is pruned exactly where that residual is FALSE, and else kept as
+    /// search node 0. A refused call leaves nothing kept, and can be made again.
     pub fn root(&mut self) -> Result<Arrival, SpaceFault>
         requires empty { kept_of self.old ≡ [] }
         ensures grows { Grows self.old self.new }
@@ -36,7 +36,7 @@ impl Space {
         }
     }
 
-    /// The pair of the empty path arrives, in this world with this formula.
+    /// The search node of the empty path arrives, in this world with this formula.
     fn arrive_first(&mut self, key: Numbers) -> Result<Arrival, EvalFault>
         requires key { AreNumbersIn self.old key }
         requires empty { kept_of self.old ≡ [] }

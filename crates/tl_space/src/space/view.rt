@@ -16,7 +16,7 @@ use tl_nodes::Nodes;
 use tl_world::{Task, World};
 
 impl Space {
-    /// The numbers of the world and of the residual of a pair.
+    /// The numbers of the world and of the residual of a search node.
     pub(crate) fn numbers(&self, at: usize) -> Numbers
         requires { at < length (kept_of self.now) }
         ensures there { slice_get self.now.pairs.keys at ≡ Some result }
@@ -26,8 +26,8 @@ impl Space {
         *self.pairs.get_index(at).unwrap()
     }
 
-    /// How many pairs are kept, of which no two are the same: their numbers are 0 up to it. It
-    /// takes no memory.
+    /// How many search nodes are kept, of which no two are the same: their numbers are 0 up to it.
+    /// It takes no memory.
     pub fn kept(&self) -> usize
         ensures count { result ≡ length (kept_of self.now) }
         ensures kept { AreKept (pair_graph (problem_of self.now)) (kept_of self.now) }
@@ -35,7 +35,7 @@ impl Space {
         self.pairs.len()
     }
 
-    /// The number of the pair's residual among the formulas of `nodes`. It takes no memory.
+    /// The number of the search node's residual among the formulas of `nodes`. It takes no memory.
     pub fn label(&self, at: usize) -> usize
         requires { at < length (kept_of self.now) }
         ensures label { slice_get (labels_of self.now) at ≡ Some result }
@@ -45,7 +45,7 @@ impl Space {
         self.numbers(at).label
     }
 
-    /// The world of the pair. It takes no memory.
+    /// The world of the search node. It takes no memory.
     pub fn world(&self, at: usize) -> &World
         requires { at < length (kept_of self.now) }
         ensures world { ForPair (kept_of self.now) at (λ x. x.node.world ≡ result.now) }

@@ -7,9 +7,9 @@ use Rattle.tl_breadth.proofs.levels.BreadthFirst.all_levels.Given as goal
 -- the search stands at the first pair of the level of this depth
 abbrev pub invariant-loop-depth : goal.invariant-loop-depth
 invariant-loop-depth g l = record {
-  task : g.S.Pairs.task l.space ≡ g.S.Pairs.task l.fn.space;
-  problem : g.S.Pairs.problem l.space ≡ g.S.Pairs.problem l.fn.space;
-  events_named : EventsAreNamed (g.S.Pairs.task l.fn.space) l.events;
-  level : IsAtLevel (g.S.Pairs.problem l.fn.space) l.self.within l.self.nodes (g.S.Pairs.kept l.space) l.at (length (g.S.Pairs.kept l.space)) l.depth;
-  reported : (from : ℕ) → IsReported (g.S.Pairs.problem l.fn.space) l.self.within l.self.watch from (g.S.Pairs.kept l.fn.space) 0 [] l.fn.events l.fn.steps → IsReported (g.S.Pairs.problem l.fn.space) l.self.within l.self.watch from (g.S.Pairs.kept l.space) l.at [] l.events l.steps;
+  task : g.S.SearchSpace.task l.space ≡ g.S.SearchSpace.task l.fn.space;
+  problem : g.S.SearchSpace.problem l.space ≡ g.S.SearchSpace.problem l.fn.space;
+  events_named : EventsAreNamed (g.S.SearchSpace.task l.fn.space) l.events;
+  level : IsAtLevel (g.S.SearchSpace.problem l.fn.space) l.self.within l.self.nodes (g.S.SearchSpace.kept l.space) l.at (length (g.S.SearchSpace.kept l.space)) l.depth;
+  reported : (from : ℕ) → IsReported (g.S.SearchSpace.problem l.fn.space) l.self.within l.self.watch from (g.S.SearchSpace.kept l.fn.space) 0 [] l.fn.events l.fn.steps → IsReported (g.S.SearchSpace.problem l.fn.space) l.self.within l.self.watch from (g.S.SearchSpace.kept l.space) l.at [] l.events l.steps;
 }

@@ -24,13 +24,13 @@ returns-in-Ok-false-clause-outcome g c =
     judged-none _ _ _ _ c.args.k c.requires c.if-k-self.false
     (λ x e a. (let t = (c.in-Ok-false.ensures.accepted x e).1 a in let z : c.in-Ok-false.field-0 ≡ true = t in let y = c.in-Ok-false.field-0-test in cc))
 
-pub pair_fault-requires-clause-here : goal.pair_fault-requires-clause-here
-pair_fault-requires-clause-here g c = judged-of-pair _ _ _ _ c.args.k c.requires c.in-Err.fault c.in-Err.ensures.cause
+pub search_node_fault-requires-clause-here : goal.search_node_fault-requires-clause-here
+search_node_fault-requires-clause-here g c = judged-of-pair _ _ _ _ c.args.k c.requires c.in-Err.fault c.in-Err.ensures.cause
 
 pub returns-in-Err-clause-fault : goal.returns-in-Err-clause-fault
 returns-in-Err-clause-fault g c =
-    judged-fault _ _ _ _ c.args.k c.requires c.in-Err.fault c.pair_fault.result (λ x e. c.pair_fault.ensures.fault x (subst (λ xs. slice_get xs c.args.k ≡ Some x) (sym c.accepted.ensures.kept) e))
+    judged-fault _ _ _ _ c.args.k c.requires c.in-Err.fault c.search_node_fault.result (λ x e. c.search_node_fault.ensures.fault x (subst (λ xs. slice_get xs c.args.k ≡ Some x) (sym c.accepted.ensures.kept) e))
     c.in-Err.ensures.cause
 
 pub returns-in-Err-clause-path_named : goal.returns-in-Err-clause-path_named
-returns-in-Err-clause-path_named g c = subst (λ t. FaultIsNamed t c.pair_fault.result) c.accepted.ensures.task c.pair_fault.ensures.named
+returns-in-Err-clause-path_named g c = subst (λ t. FaultIsNamed t c.search_node_fault.result) c.accepted.ensures.task c.search_node_fault.ensures.named

@@ -6,10 +6,10 @@ use Rattle.tl_cert.proofs.checking.Checking.first_out.Given as goal
 -- the actions so far stay inside
 abbrev pub invariant-loop-a : goal.invariant-loop-a
 invariant-loop-a g l = record {
-  task : g.S.Pairs.task l.space ≡ g.S.Pairs.task l.fn.space;
-  problem : g.S.Pairs.problem l.space ≡ g.S.Pairs.problem l.fn.space;
-  kept : g.S.Pairs.kept l.space ≡ g.S.Pairs.kept l.fn.space;
-  lists : ListsActionsAt (g.S.Pairs.problem l.fn.space) (g.S.Pairs.kept l.fn.space) l.at l.a-items;
-  named : AreNamedIn (g.S.Pairs.task l.fn.space) l.a-items;
-  inside : AreInside (g.S.Pairs.problem l.fn.space) l.self.bound (g.S.Pairs.kept l.fn.space) l.at (take l.a-index l.a-items);
+  task : g.S.SearchSpace.task l.space ≡ g.S.SearchSpace.task l.fn.space;
+  problem : g.S.SearchSpace.problem l.space ≡ g.S.SearchSpace.problem l.fn.space;
+  kept : g.S.SearchSpace.kept l.space ≡ g.S.SearchSpace.kept l.fn.space;
+  lists : ListsActionsAt (g.S.SearchSpace.problem l.fn.space) (g.S.SearchSpace.kept l.fn.space) l.at l.a-items;
+  named : AreNamedIn (g.S.SearchSpace.task l.fn.space) l.a-items;
+  inside : AreInside (g.S.SearchSpace.problem l.fn.space) l.self.bound (g.S.SearchSpace.kept l.fn.space) l.at (take l.a-index l.a-items);
 }

@@ -11,8 +11,8 @@ use Rattle.tl_cert.proofs.checking.Checking.list_all.Goals as goal
 pub returns-in_err-list-clause-fault : goal.returns-in_err-list-clause-fault
 returns-in_err-list-clause-fault g c =
     let i = c.loop-before.invariant in
-    let p = g.S.Pairs.problem c.args.space.now in
-    let kept = g.S.Pairs.kept c.loop-before.space in
+    let p = g.S.SearchSpace.problem c.args.space.now in
+    let kept = g.S.SearchSpace.kept c.loop-before.space in
     let link = c.index-links-before.result in
     let f = c.in_err-list.field-0.0 in
     let at = slice_get_read c.args.links.now _ c.loop-before.before link refl c.loop-before-test.true c.index-links-before.is in
@@ -23,19 +23,19 @@ returns-in_err-list-clause-fault g c =
 pub returns-then-not-branch-clause-listed : goal.returns-then-not-branch-clause-listed
 returns-then-not-branch-clause-listed g c =
     let i = c.loop-before.invariant in
-    let p = g.S.Pairs.problem c.args.space.now in
+    let p = g.S.SearchSpace.problem c.args.space.now in
     let link = c.index-links-before.result in
     let at = slice_get_read c.args.links.now _ c.loop-before.before link refl c.loop-before-test.true c.index-links-before.is in
-    first-bad p c.args.self.now.bound c.args.links.now c.loop-before.before link (g.S.Pairs.kept c.loop-before.space) (g.S.Pairs.kept c.list.new.space) at i.lists
-    (links-over p _ c.args.self.now.bound _ (g.S.Pairs.kept c.loop-before.space) (g.S.Pairs.kept c.list.new.space) link _ false i.problem i.bound c.if-not-branch.true c.in_ok-list.ensures.listed)
+    first-bad p c.args.self.now.bound c.args.links.now c.loop-before.before link (g.S.SearchSpace.kept c.loop-before.space) (g.S.SearchSpace.kept c.list.new.space) at i.lists
+    (links-over p _ c.args.self.now.bound _ (g.S.SearchSpace.kept c.loop-before.space) (g.S.SearchSpace.kept c.list.new.space) link _ false i.problem i.bound c.if-not-branch.true c.in_ok-list.ensures.listed)
 
 pub loop-before-preserved : goal.loop-before-preserved
 loop-before-preserved g c =
     let i = c.loop-before.invariant in
-    let p = g.S.Pairs.problem c.args.space.now in
+    let p = g.S.SearchSpace.problem c.args.space.now in
     let b = c.args.self.now.bound in
-    let old = g.S.Pairs.kept c.loop-before.space in
-    let new = g.S.Pairs.kept c.list.new.space in
+    let old = g.S.SearchSpace.kept c.loop-before.space in
+    let new = g.S.SearchSpace.kept c.list.new.space in
     let link = c.index-links-before.result in
     let at = slice_get_read c.args.links.now _ c.loop-before.before link refl c.loop-before-test.true c.index-links-before.is in
     let listed : ListsLink p b old new link true = links-over p _ b _ old new link _ true i.problem i.bound c.if-not-branch.false c.in_ok-list.ensures.listed in
@@ -44,6 +44,6 @@ loop-before-preserved g c =
       problem = c.list.ensures.problem ∙ i.problem;
       bound = c.list.ensures.bound ∙ i.bound;
       lists = lists-more p b c.args.links.now c.loop-before.before link old new at i.lists listed;
-      ready = subst (λ t. IsRightSoFar t p new c.list.new.self) i.task (subst (λ r. IsRightSoFar (g.S.Pairs.task c.loop-before.space) r new c.list.new.self) i.problem (c.in_ok-list.ensures.ready c.if-not-branch.false));
+      ready = subst (λ t. IsRightSoFar t p new c.list.new.self) i.task (subst (λ r. IsRightSoFar (g.S.SearchSpace.task c.loop-before.space) r new c.list.new.self) i.problem (c.in_ok-list.ensures.ready c.if-not-branch.false));
       few = let l = link-length p b old new link listed in omega (arith, l, i.few);
     }

@@ -6,10 +6,10 @@ use Rattle.tl_cert.proofs.checking.Checking.list_all.Given as goal
 -- the links so far are good, and their nodes are kept
 abbrev pub invariant-loop-before : goal.invariant-loop-before
 invariant-loop-before g l = record {
-  task : g.S.Pairs.task l.space ≡ g.S.Pairs.task l.fn.space;
-  problem : g.S.Pairs.problem l.space ≡ g.S.Pairs.problem l.fn.space;
+  task : g.S.SearchSpace.task l.space ≡ g.S.SearchSpace.task l.fn.space;
+  problem : g.S.SearchSpace.problem l.space ≡ g.S.SearchSpace.problem l.fn.space;
   bound : l.self.bound ≡ l.fn.self.bound;
-  lists : Lists (g.S.Pairs.problem l.fn.space) l.fn.self.bound (take l.before l.links) (g.S.Pairs.kept l.space);
-  ready : IsRightSoFar (g.S.Pairs.task l.fn.space) (g.S.Pairs.problem l.fn.space) (g.S.Pairs.kept l.space) l.self;
-  few : length (g.S.Pairs.kept l.space) ≤ l.before + 1;
+  lists : Lists (g.S.SearchSpace.problem l.fn.space) l.fn.self.bound (take l.before l.links) (g.S.SearchSpace.kept l.space);
+  ready : IsRightSoFar (g.S.SearchSpace.task l.fn.space) (g.S.SearchSpace.problem l.fn.space) (g.S.SearchSpace.kept l.space) l.self;
+  few : length (g.S.SearchSpace.kept l.space) ≤ l.before + 1;
 }

@@ -18,25 +18,25 @@ arrive-requires g c =
     let r = c.requires.turn in
     let items = c.as_slice-a-items.result.now in
     let e = slice_get_read _ _ c.loop-a.a-index c.a-item.result refl c.loop-a-test.true c.a-item.is in
-    let new = g.S.Pairs.kept c.loop-a.space in
+    let new = g.S.SearchSpace.kept c.loop-a.space in
     record {
-      turn = subst (λ p. HasAction p (g.S.Pairs.task c.loop-a.space) c.args.self.now.costs.now c.args.self.now.nodes new c.loop-a.found c.args.at c.a-item.result) (sym i.problem)
-          (subst (λ t. HasAction (g.S.Pairs.problem c.args.space.now) t c.args.self.now.costs.now c.args.self.now.nodes new c.loop-a.found c.args.at c.a-item.result) (sym i.task)
+      turn = subst (λ p. HasAction p (g.S.SearchSpace.task c.loop-a.space) c.args.self.now.costs.now c.args.self.now.nodes new c.loop-a.found c.args.at c.a-item.result) (sym i.problem)
+          (subst (λ t. HasAction (g.S.SearchSpace.problem c.args.space.now) t c.args.self.now.costs.now c.args.self.now.nodes new c.loop-a.found c.args.at c.a-item.result) (sym i.task)
           (record { rest = _; turn = turn-next _ _ _ _ _ _ _ items c.loop-a.a-index i.turn c.a-item.result e }));
       executable = subst (λ p. IsExecutableAt p new c.args.at c.a-item.result) (sym i.problem) (listed-executable _ _ new c.args.at c.loop-a.a-index c.a-item.result items r.pair r.is_at.pair i.grows i.lists e);
-      named = subst (λ t. IsNamedIn t c.a-item.result) (sym i.task) ((Each-Among (IsNamedIn (g.S.Pairs.task c.args.space.now)) items).0 i.listed_named c.a-item.result (among-at items c.loop-a.a-index c.a-item.result e));
+      named = subst (λ t. IsNamedIn t c.a-item.result) (sym i.task) ((Each-Among (IsNamedIn (g.S.SearchSpace.task c.args.space.now)) items).0 i.listed_named c.a-item.result (among-at items c.loop-a.a-index c.a-item.result e));
       nodes = c.requires.nodes;
     }
 
 pub loop-a-init : goal.loop-a-init
 loop-a-init g c =
-    let old = g.S.Pairs.kept c.args.space.now in
+    let old = g.S.SearchSpace.kept c.args.space.now in
     record {
       task = c.actions.ensures.task;
       problem = c.actions.ensures.problem;
-      listed_named = subst (AreNamedIn (g.S.Pairs.task c.args.space.now)) (sym c.as_slice-a-items.ensures) c.in-Ok.ensures.named;
-      lists = λ x e. subst (ListsActions (g.S.Pairs.problem c.args.space.now) x.node.world) (sym c.as_slice-a-items.ensures) (c.in-Ok.ensures.actions x e);
-      turn = turn-begins _ _ _ _ _ _ old (g.S.Pairs.kept c.actions.new.self) c.as_slice-a-items.result.now c.actions.ensures.kept c.requires.turn c.requires.unaccepted (λ x e. subst (ListsActions (g.S.Pairs.problem c.args.space.now) x.node.world) (sym c.as_slice-a-items.ensures) (c.in-Ok.ensures.actions x e));
+      listed_named = subst (AreNamedIn (g.S.SearchSpace.task c.args.space.now)) (sym c.as_slice-a-items.ensures) c.in-Ok.ensures.named;
+      lists = λ x e. subst (ListsActions (g.S.SearchSpace.problem c.args.space.now) x.node.world) (sym c.as_slice-a-items.ensures) (c.in-Ok.ensures.actions x e);
+      turn = turn-begins _ _ _ _ _ _ old (g.S.SearchSpace.kept c.actions.new.self) c.as_slice-a-items.result.now c.actions.ensures.kept c.requires.turn c.requires.unaccepted (λ x e. subst (ListsActions (g.S.SearchSpace.problem c.args.space.now) x.node.world) (sym c.as_slice-a-items.ensures) (c.in-Ok.ensures.actions x e));
       grows = λ k x e. subst (λ xs. slice_get xs k ≡ Some x) (sym c.actions.ensures.kept) e;
       opens = ap (λ xs. length xs + listed_len c.args.found.now.open_list) c.actions.ensures.kept;
       stay = λ k h. h;
@@ -48,19 +48,19 @@ loop-a-preserved g c =
     let i = c.loop-a.invariant in
     let items = c.as_slice-a-items.result.now in
     let e = slice_get_read _ _ c.loop-a.a-index c.a-item.result refl c.loop-a-test.true c.a-item.is in
-    let old = g.S.Pairs.kept c.loop-a.space in
-    let new = g.S.Pairs.kept c.arrive.new.space in
+    let old = g.S.SearchSpace.kept c.loop-a.space in
+    let new = g.S.SearchSpace.kept c.arrive.new.space in
     let told = rw c.if-branch.false at c.in_ok-arrive.ensures in
     record {
       task = c.arrive.ensures.task ∙ i.task;
       problem = c.arrive.ensures.problem ∙ i.problem;
       listed_named = i.listed_named;
       lists = i.lists;
-      turn = subst (λ p. IsTriedAt p (g.S.Pairs.task c.args.space.now) c.args.self.now.costs.now c.args.self.now.nodes old new c.loop-a.found c.arrive.new.found c.args.at c.a-item.result) i.problem
-          (subst (λ t. IsTriedAt (g.S.Pairs.problem c.loop-a.space) t c.args.self.now.costs.now c.args.self.now.nodes old new c.loop-a.found c.arrive.new.found c.args.at c.a-item.result) i.task told.outcome) _
+      turn = subst (λ p. IsTriedAt p (g.S.SearchSpace.task c.args.space.now) c.args.self.now.costs.now c.args.self.now.nodes old new c.loop-a.found c.arrive.new.found c.args.at c.a-item.result) i.problem
+          (subst (λ t. IsTriedAt (g.S.SearchSpace.problem c.loop-a.space) t c.args.self.now.costs.now c.args.self.now.nodes old new c.loop-a.found c.arrive.new.found c.args.at c.a-item.result) i.task told.outcome) _
           (turn-next _ _ _ _ _ _ _ items c.loop-a.a-index i.turn c.a-item.result e);
       grows = λ k x f. c.arrive.ensures.grows k x (i.grows k x f);
-      opens = opens-on (g.S.Pairs.kept c.args.space.now) old new c.args.found.now c.loop-a.found c.arrive.new.found i.opens told.opens;
+      opens = opens-on (g.S.SearchSpace.kept c.args.space.now) old new c.args.found.now c.loop-a.found c.arrive.new.found i.opens told.opens;
       stay = λ k h. c.in_ok-arrive.ensures.stay k (i.stay k h);
       ticks = omega (arith, c.arrive.ensures.ticks, i.ticks);
     }
@@ -76,7 +76,7 @@ returns-in-Err-RangeHere g c =
       grows = λ i x e. subst (λ xs. slice_get xs i ≡ Some x) (sym c.actions.ensures.kept) e;
       opens = tt;
       stay = tt;
-      ticks = ticks-none _ (g.S.Pairs.kept c.actions.new.self) c.args.at c.args.steps.now t.pair (subst (λ xs. slice_get xs c.args.at ≡ Some t.pair) (sym c.actions.ensures.kept) t.is_at.pair);
+      ticks = ticks-none _ (g.S.SearchSpace.kept c.actions.new.self) c.args.at c.args.steps.now t.pair (subst (λ xs. slice_get xs c.args.at ≡ Some t.pair) (sym c.actions.ensures.kept) t.is_at.pair);
       fault = fault-acting _ _ _ _ _ _ _ _ t c.in-Err-RangeHere.note k.0 c.range_at.result c.range_at.ensures k.1;
       path_named = fault-named _ _ _ _ _ _ _ _ t c.in-Err-RangeHere.note c.range_at.result c.range_at.ensures;
     }
@@ -95,7 +95,7 @@ returns g c =
       grows = i.grows;
       opens = i.opens;
       stay = i.stay;
-      ticks = ticks-listed _ _ (g.S.Pairs.kept c.loop-a.space) c.args.at c.args.steps.now c.loop-a.steps c.loop-a.a-index r.pair c.as_slice-a-items.result.now r.is_at.pair i.grows (i.lists r.pair r.is_at.pair) c.loop-a.auto.a-index-end i.ticks;
+      ticks = ticks-listed _ _ (g.S.SearchSpace.kept c.loop-a.space) c.args.at c.args.steps.now c.loop-a.steps c.loop-a.a-index r.pair c.as_slice-a-items.result.now r.is_at.pair i.grows (i.lists r.pair r.is_at.pair) c.loop-a.auto.a-index-end i.ticks;
       fault = tt;
       path_named = tt;
     }
@@ -106,16 +106,16 @@ range_at-requires-clause-linked g c = turn-linked _ _ _ _ _ _ _ _ c.requires.tur
 pub returns-in-Err-NoMemory-clause-ticks : goal.returns-in-Err-NoMemory-clause-ticks
 returns-in-Err-NoMemory-clause-ticks g c =
     let t = c.requires.turn in
-    ticks-none _ (g.S.Pairs.kept c.actions.new.self) c.args.at c.args.steps.now t.pair (subst (λ xs. slice_get xs c.args.at ≡ Some t.pair) (sym c.actions.ensures.kept) t.is_at.pair)
+    ticks-none _ (g.S.SearchSpace.kept c.actions.new.self) c.args.at c.args.steps.now t.pair (subst (λ xs. slice_get xs c.args.at ≡ Some t.pair) (sym c.actions.ensures.kept) t.is_at.pair)
 
 pub returns-in_err-arrive-clause-ticks : goal.returns-in_err-arrive-clause-ticks
 returns-in_err-arrive-clause-ticks g c =
     let i = c.loop-a.invariant in
     let r = c.requires.turn in
-    ticks-listed _ (g.S.Pairs.kept c.args.space.now) (g.S.Pairs.kept c.arrive.new.space) c.args.at c.args.steps.now c.arrive.new.steps (c.loop-a.a-index + 1) r.pair c.as_slice-a-items.result.now r.is_at.pair (λ k x f. c.arrive.ensures.grows k x (i.grows k x f)) (i.lists r.pair r.is_at.pair) (omega (arith, c.loop-a-test.true)) (omega (arith, c.arrive.ensures.ticks, i.ticks))
+    ticks-listed _ (g.S.SearchSpace.kept c.args.space.now) (g.S.SearchSpace.kept c.arrive.new.space) c.args.at c.args.steps.now c.arrive.new.steps (c.loop-a.a-index + 1) r.pair c.as_slice-a-items.result.now r.is_at.pair (λ k x f. c.arrive.ensures.grows k x (i.grows k x f)) (i.lists r.pair r.is_at.pair) (omega (arith, c.loop-a-test.true)) (omega (arith, c.arrive.ensures.ticks, i.ticks))
 
 pub returns-then-branch-clause-ticks : goal.returns-then-branch-clause-ticks
 returns-then-branch-clause-ticks g c =
     let i = c.loop-a.invariant in
     let r = c.requires.turn in
-    ticks-listed _ (g.S.Pairs.kept c.args.space.now) (g.S.Pairs.kept c.arrive.new.space) c.args.at c.args.steps.now c.arrive.new.steps (c.loop-a.a-index + 1) r.pair c.as_slice-a-items.result.now r.is_at.pair (λ k x f. c.arrive.ensures.grows k x (i.grows k x f)) (i.lists r.pair r.is_at.pair) (omega (arith, c.loop-a-test.true)) (omega (arith, c.arrive.ensures.ticks, i.ticks))
+    ticks-listed _ (g.S.SearchSpace.kept c.args.space.now) (g.S.SearchSpace.kept c.arrive.new.space) c.args.at c.args.steps.now c.arrive.new.steps (c.loop-a.a-index + 1) r.pair c.as_slice-a-items.result.now r.is_at.pair (λ k x f. c.arrive.ensures.grows k x (i.grows k x f)) (i.lists r.pair r.is_at.pair) (omega (arith, c.loop-a-test.true)) (omega (arith, c.arrive.ensures.ticks, i.ticks))

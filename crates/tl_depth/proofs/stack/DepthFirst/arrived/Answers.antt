@@ -12,7 +12,7 @@ returns-in-Pruned-clause-turned g c calls s = c.pruned.ensures.turned calls (as-
 
 pub returns-in-Some-clause-turned : goal.returns-in-Some-clause-turned
 returns-in-Some-clause-turned g c calls s =
-    subst (λ o. Judged (g.S.Pairs.problem c.args.space.now) c.args.nodes (pairs_of (g.S.Pairs.kept c.args.space.now)) c.args.self.now c.in-Fresh.k c.args.left o) c.in-Some.is c.in_ok-ended-in-Fresh.ensures.judged
+    subst (λ o. Judged (g.S.SearchSpace.problem c.args.space.now) c.args.nodes (pairs_of (g.S.SearchSpace.kept c.args.space.now)) c.args.self.now c.in-Fresh.k c.args.left o) c.in-Some.is c.in_ok-ended-in-Fresh.ensures.judged
     calls (as-arrival refl refl c.in-Fresh.is s)
 
 pub returns-in_ok-seen-in-Seen-clause-turned : goal.returns-in_ok-seen-in-Seen-clause-turned
@@ -24,7 +24,7 @@ returns-in_ok-fresh-in-Fresh-clause-turned g c calls s =
     (c.in_ok-fresh-in-Fresh.ensures.turned calls (as-arrival (sym c.outcome_at.ensures.problem) (sym (ap pairs_of c.outcome_at.ensures.kept)) c.in-Fresh.is s))
 
 pub returns-in-Some-clause-ends : goal.returns-in-Some-clause-ends
-returns-in-Some-clause-ends g c h = ends-any _ _ _ c.in-Some.outcome (subst (KeepsLast c.args.self.now.watch (g.S.Pairs.kept c.args.space.now) c.args.self.now.events) c.in-Fresh.is h)
+returns-in-Some-clause-ends g c h = ends-any _ _ _ c.in-Some.outcome (subst (KeepsLast c.args.self.now.watch (g.S.SearchSpace.kept c.args.space.now) c.args.self.now.events) c.in-Fresh.is h)
 
 pub fresh-requires-clause-arrived : goal.fresh-requires-clause-arrived
 fresh-requires-clause-arrived g c = (c.requires.arrived.0, as-arrival (sym c.outcome_at.ensures.problem) (sym (ap pairs_of c.outcome_at.ensures.kept)) c.in-Fresh.is c.requires.arrived.1)

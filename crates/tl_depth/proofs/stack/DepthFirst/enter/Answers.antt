@@ -17,7 +17,7 @@ returns-clause-entered g c =
       its_pair = refl;
       its_left = refl;
       its_tried = refl;
-      its_actions = listed-pair _ (g.S.Pairs.task c.args.space.now) _ c.args.at _ c.in_ok-actions.ensures.listed;
+      its_actions = listed-pair _ (g.S.SearchSpace.task c.args.space.now) _ c.args.at _ c.in_ok-actions.ensures.listed;
       sized = omega (arith, c.len-count.ensures);
     }
 
@@ -25,6 +25,6 @@ pub returns-clause-named : goal.returns-clause-named
 returns-clause-named g c =
     let level : Level = record { at = c.args.at; left = c.args.left; actions = c.in_ok-actions.actions; tried = 0 } in
     record {
-      stack = subst (StackIsNamed (g.S.Pairs.task c.args.space.now)) (sym (pushed _ _ c.actions_of.new.self.stack.items _ level c.push.ensures.items c.is_err.ensures.negation c.if-is_err.false ∙ ap (λ (w : DepthFirst). w.stack.items ++ level ∷ []) c.actions_of.ensures.rest)) (stack-more (g.S.Pairs.task c.args.space.now) c.args.self.now.stack.items level c.requires.named.stack c.in_ok-actions.ensures.listed.3);
-      events = subst (λ (w : DepthFirst). EventsAreNamed (g.S.Pairs.task c.args.space.now) w.events) (sym c.actions_of.ensures.rest) c.requires.named.events;
+      stack = subst (StackIsNamed (g.S.SearchSpace.task c.args.space.now)) (sym (pushed _ _ c.actions_of.new.self.stack.items _ level c.push.ensures.items c.is_err.ensures.negation c.if-is_err.false ∙ ap (λ (w : DepthFirst). w.stack.items ++ level ∷ []) c.actions_of.ensures.rest)) (stack-more (g.S.SearchSpace.task c.args.space.now) c.args.self.now.stack.items level c.requires.named.stack c.in_ok-actions.ensures.listed.3);
+      events = subst (λ (w : DepthFirst). EventsAreNamed (g.S.SearchSpace.task c.args.space.now) w.events) (sym c.actions_of.ensures.rest) c.requires.named.events;
     }

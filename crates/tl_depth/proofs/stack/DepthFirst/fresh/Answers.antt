@@ -35,7 +35,7 @@ returns-clause-fault g c = if-err c.enter.result _ _ c.enter.ensures.fault (λ f
 pub returns-then-left-eq0-clause-named : goal.returns-then-left-eq0-clause-named
 returns-then-left-eq0-clause-named g c =
     let s = c.requires.arrived.1 in
-    search-with (g.S.Pairs.task c.args.space.now) c.args.self.now c.pass.new.self (stack-stepped (g.S.Pairs.task c.args.space.now) c.args.self.now.stack.items s.front c.pass.new.self.stack.items s.top s.stack (c.pass.ensures.stack s.front s.top s.stack) c.requires.named.stack) (ap (λ (w : DepthFirst). w.events) c.pass.ensures.rest) c.requires.named
+    search-with (g.S.SearchSpace.task c.args.space.now) c.args.self.now c.pass.new.self (stack-stepped (g.S.SearchSpace.task c.args.space.now) c.args.self.now.stack.items s.front c.pass.new.self.stack.items s.top s.stack (c.pass.ensures.stack s.front s.top s.stack) c.requires.named.stack) (ap (λ (w : DepthFirst). w.events) c.pass.ensures.rest) c.requires.named
 
 pub enter-requires-clause-named : goal.enter-requires-clause-named
 enter-requires-clause-named g c = record { stack = c.requires.named.stack; events = c.requires.named.events }

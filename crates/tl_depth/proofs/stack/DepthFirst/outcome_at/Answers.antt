@@ -43,9 +43,9 @@ returns-in-Ok-false-clause-judged g c = (
 )
 
 pub returns-in_ok-plan-in-Ok-true-clause-plan_named : goal.returns-in_ok-plan-in-Ok-true-clause-plan_named
-returns-in_ok-plan-in-Ok-true-clause-plan_named g c = subst (AreNamedIn (g.S.Pairs.task c.args.space.now)) (sym (c.in_ok-plan-in-Ok-true.ensures {u = tt} ∙ ap path_of c.as_slice.ensures.value)) (path-of-named (g.S.Pairs.task c.args.space.now) c.args.self.now.stack.items c.requires.named.stack)
+returns-in_ok-plan-in-Ok-true-clause-plan_named g c = subst (AreNamedIn (g.S.SearchSpace.task c.args.space.now)) (sym (c.in_ok-plan-in-Ok-true.ensures {u = tt} ∙ ap path_of c.as_slice.ensures.value)) (path-of-named (g.S.SearchSpace.task c.args.space.now) c.args.self.now.stack.items c.requires.named.stack)
 
 pub returns-in-Err-clause-path_named : goal.returns-in-Err-clause-path_named
 returns-in-Err-clause-path_named g c =
-    levels-named (g.S.Pairs.task c.args.space.now) c.args.self.now.stack.items c.in-Err.fault c.levels_fault.result
+    levels-named (g.S.SearchSpace.task c.args.space.now) c.args.self.now.stack.items c.in-Err.fault c.levels_fault.result
     (subst (λ ls. TellsPair (path_of ls) c.in-Err.fault c.levels_fault.result) c.as_slice-in-Err.ensures.value c.levels_fault.ensures) c.requires.named.stack

@@ -11,4 +11,4 @@ returns-clause-turned g c calls s = turned-pruned _ _ _ _ arrival.Pruned _ calls
 pub returns-clause-named : goal.returns-clause-named
 returns-clause-named g c =
     let s = c.requires.arrived.1 in
-    search-with (g.S.Pairs.task c.args.space.now) c.args.self.now c.pass.new.self (stack-stepped (g.S.Pairs.task c.args.space.now) c.args.self.now.stack.items s.front c.pass.new.self.stack.items s.top s.stack (c.pass.ensures.stack s.front s.top s.stack) c.requires.named.stack) (ap (λ (w : DepthFirst). w.events) c.pass.ensures.rest) c.requires.named
+    search-with (g.S.SearchSpace.task c.args.space.now) c.args.self.now c.pass.new.self (stack-stepped (g.S.SearchSpace.task c.args.space.now) c.args.self.now.stack.items s.front c.pass.new.self.stack.items s.top s.stack (c.pass.ensures.stack s.front s.top s.stack) c.requires.named.stack) (ap (λ (w : DepthFirst). w.events) c.pass.ensures.rest) c.requires.named

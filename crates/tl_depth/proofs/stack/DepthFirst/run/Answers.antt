@@ -69,15 +69,15 @@ pub returns-clause-history : goal.returns-clause-history
 returns-clause-history g c = let i = c.turns.invariant in as-history _ _ _ _ _ _ _ _ i.problem i.watch refl refl i.history
 
 pub returns-in-Some-clause-ends : goal.returns-in-Some-clause-ends
-returns-in-Some-clause-ends g c = subst (EndsIfAny c.args.self.now.watch (g.S.Pairs.kept c.begin.new.space) c.begin.new.self.events) c.in-Some.is c.in_ok-outcome.ensures.ends
+returns-in-Some-clause-ends g c = subst (EndsIfAny c.args.self.now.watch (g.S.SearchSpace.kept c.begin.new.space) c.begin.new.self.events) c.in-Some.is c.in_ok-outcome.ensures.ends
 
 pub returns-in-Some-2-clause-ends : goal.returns-in-Some-2-clause-ends
 returns-in-Some-2-clause-ends g c =
     let i = c.turns.invariant in
-    subst (λ b. Ends b (g.S.Pairs.kept c.turn.new.space) c.turn.new.self.events c.in-Some-2.outcome) i.watch (subst (EndsIfAny c.turns.self.watch (g.S.Pairs.kept c.turn.new.space) c.turn.new.self.events) c.in-Some-2.is c.in_ok-outcome-2.ensures.ends)
+    subst (λ b. Ends b (g.S.SearchSpace.kept c.turn.new.space) c.turn.new.self.events c.in-Some-2.outcome) i.watch (subst (EndsIfAny c.turns.self.watch (g.S.SearchSpace.kept c.turn.new.space) c.turn.new.self.events) c.in-Some-2.is c.in_ok-outcome-2.ensures.ends)
 
 pub returns-clause-ends : goal.returns-clause-ends
-returns-clause-ends g c = c.none.ensures.ends c.args.self.now.watch (g.S.Pairs.kept c.turns.space) c.turns.self.events
+returns-clause-ends g c = c.none.ensures.ends c.args.self.now.watch (g.S.SearchSpace.kept c.turns.space) c.turns.self.events
 
 pub returns-in_err-outcome-clause-calls : goal.returns-in_err-outcome-clause-calls
 returns-in_err-outcome-clause-calls g c = (0, omega arith, none-calls _ _ _)
@@ -104,4 +104,4 @@ pub returns-clause-events_named : goal.returns-clause-events_named
 returns-clause-events_named g c = subst (λ t. EventsAreNamed t c.turns.self.events) c.turns.invariant.task c.turns.invariant.named.events
 
 pub returns-clause-plan_named : goal.returns-clause-plan_named
-returns-clause-plan_named g c = c.none.ensures.named (g.S.Pairs.task c.args.space.now)
+returns-clause-plan_named g c = c.none.ensures.named (g.S.SearchSpace.task c.args.space.now)

@@ -8,14 +8,14 @@ use Rattle.tl_depth.proofs.stack.DepthFirst.run.Given as goal
 
 abbrev pub invariant-turns : goal.invariant-turns
 invariant-turns g l = record {
-  task : g.S.Pairs.task l.space ≡ g.S.Pairs.task l.fn.space;
-  named : SearchIsNamed (g.S.Pairs.task l.space) l.self;
-  remembered : Remembers (g.S.Pairs.problem l.space) (g.S.Pairs.task l.space) (g.S.Pairs.kept l.space) l.self.expansions;
-  problem : g.S.Pairs.problem l.space ≡ g.S.Pairs.problem l.fn.space;
+  task : g.S.SearchSpace.task l.space ≡ g.S.SearchSpace.task l.fn.space;
+  named : SearchIsNamed (g.S.SearchSpace.task l.space) l.self;
+  remembered : Remembers (g.S.SearchSpace.problem l.space) (g.S.SearchSpace.task l.space) (g.S.SearchSpace.kept l.space) l.self.expansions;
+  problem : g.S.SearchSpace.problem l.space ≡ g.S.SearchSpace.problem l.fn.space;
   within : l.self.within ≡ l.fn.self.within;
   watch : l.self.watch ≡ l.fn.self.watch;
-  history : IsHistory (g.S.Pairs.problem l.space) l.self.watch (g.S.Pairs.kept l.space) l.self.events;
-  ongoing : (calls : ℕ) × IsOngoing (g.S.Pairs.problem l.space) l.nodes (pairs_of (g.S.Pairs.kept l.space)) l.self calls × (calls + l.fn.steps ≡ l.steps);
+  history : IsHistory (g.S.SearchSpace.problem l.space) l.self.watch (g.S.SearchSpace.kept l.space) l.self.events;
+  ongoing : (calls : ℕ) × IsOngoing (g.S.SearchSpace.problem l.space) l.nodes (pairs_of (g.S.SearchSpace.kept l.space)) l.self calls × (calls + l.fn.steps ≡ l.steps);
 }
 
 abbrev pub decreases-turns : goal.decreases-turns

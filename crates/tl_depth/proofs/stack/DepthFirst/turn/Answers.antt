@@ -57,8 +57,8 @@ pub returns-clause-ends : goal.returns-clause-ends
 returns-clause-ends g c =
     let w : c.attempt.new.self.watch ≡ c.args.self.now.watch = ap (λ (w : DepthFirst). w.watch) c.attempt.ensures.rest in
     if-ok c.arrived.result _ _ c.arrived.ensures.ends (λ o h.
-    as-ends c.attempt.new.self.watch c.args.self.now.watch (g.S.Pairs.kept c.attempt.new.space) (g.S.Pairs.kept c.arrived.new.space) c.attempt.new.self.events c.arrived.new.self.events o w (sym c.arrived.ensures.kept) (sym c.arrived.ensures.events)
-    (h (as-keeps c.args.self.now.watch c.attempt.new.self.watch (g.S.Pairs.kept c.attempt.new.space) c.attempt.new.self.events c.in_ok-arrival.arrival (sym w) c.in_ok-arrival.ensures.ends)))
+    as-ends c.attempt.new.self.watch c.args.self.now.watch (g.S.SearchSpace.kept c.attempt.new.space) (g.S.SearchSpace.kept c.arrived.new.space) c.attempt.new.self.events c.arrived.new.self.events o w (sym c.arrived.ensures.kept) (sym c.arrived.ensures.events)
+    (h (as-keeps c.args.self.now.watch c.attempt.new.self.watch (g.S.SearchSpace.kept c.attempt.new.space) c.attempt.new.self.events c.in_ok-arrival.arrival (sym w) c.in_ok-arrival.ensures.ends)))
 
 pub returns-then-len-level-clause-calls : goal.returns-then-len-level-clause-calls
 returns-then-len-level-clause-calls g c calls s = (calls, refl, few-made _ _ _ _ calls s)
@@ -72,7 +72,7 @@ returns-clause-calls g c calls s = (calls + 1, omega (arith, c.attempt.ensures.t
 pub returns-then-len-level-clause-named : goal.returns-then-len-level-clause-named
 returns-then-len-level-clause-named g c =
     let v = reads-last _ _ _ _ c.requires.some c.as_slice.ensures.value c.as_slice-2.ensures.value c.index-as_slice-top.is in
-    search-with (g.S.Pairs.task c.args.space.now) c.args.self.now c.leave.new.self (stack-left (g.S.Pairs.task c.args.space.now) c.args.self.now.stack.items v.front c.leave.new.self.stack.items c.index-as_slice-top.result v.is c.leave.ensures.root c.leave.ensures.stack c.requires.named.stack) (ap (λ (w : DepthFirst). w.events) c.leave.ensures.rest) c.requires.named
+    search-with (g.S.SearchSpace.task c.args.space.now) c.args.self.now c.leave.new.self (stack-left (g.S.SearchSpace.task c.args.space.now) c.args.self.now.stack.items v.front c.leave.new.self.stack.items c.index-as_slice-top.result v.is c.leave.ensures.root c.leave.ensures.stack c.requires.named.stack) (ap (λ (w : DepthFirst). w.events) c.leave.ensures.rest) c.requires.named
 
 pub arrived-requires-clause-named : goal.arrived-requires-clause-named
 arrived-requires-clause-named g c = subst (λ t. SearchIsNamed t c.attempt.new.self) (sym c.attempt.ensures.task) c.in_ok-arrival.ensures.named
@@ -89,9 +89,9 @@ returns-clause-path_named g c = subst (λ t. IfErr c.arrived.result (FaultIsName
 pub returns-then-len-level-clause-remembered : goal.returns-then-len-level-clause-remembered
 returns-then-len-level-clause-remembered g c =
     let v = reads-last _ _ _ _ c.requires.some c.as_slice.ensures.value c.as_slice-2.ensures.value c.index-as_slice-top.is in
-    let named = (stack-split (g.S.Pairs.task c.args.space.now) c.args.self.now.stack.items v.front c.index-as_slice-top.result v.is c.requires.named.stack).1 in
+    let named = (stack-split (g.S.SearchSpace.task c.args.space.now) c.args.self.now.stack.items v.front c.index-as_slice-top.result v.is c.requires.named.stack).1 in
     record {
       kept_rightly = c.requires.remembered.kept_rightly;
-      expansions = c.leave.ensures.remembered v.front c.index-as_slice-top.result v.is (g.S.Pairs.problem c.args.space.now) (g.S.Pairs.task c.args.space.now) (g.S.Pairs.kept c.args.space.now) c.requires.remembered.expansions
-          (top-listed _ _ (g.S.Pairs.kept c.args.space.now) _ c.requires.ongoing.0 c.requires.ongoing.1 v.front c.index-as_slice-top.result v.is (g.S.Pairs.task c.args.space.now) named);
+      expansions = c.leave.ensures.remembered v.front c.index-as_slice-top.result v.is (g.S.SearchSpace.problem c.args.space.now) (g.S.SearchSpace.task c.args.space.now) (g.S.SearchSpace.kept c.args.space.now) c.requires.remembered.expansions
+          (top-listed _ _ (g.S.SearchSpace.kept c.args.space.now) _ c.requires.ongoing.0 c.requires.ongoing.1 v.front c.index-as_slice-top.result v.is (g.S.SearchSpace.task c.args.space.now) named);
     }

@@ -1,4 +1,4 @@
-use Rattle.tl_search.proofs.faults.pair_fault.Goals as goal
+use Rattle.tl_search.proofs.faults.search_node_fault.Goals as goal
 
 pub returns-in-RangeHere-clause-fault : goal.returns-in-RangeHere-clause-fault
 returns-in-RangeHere-clause-fault g c = rw c.in-RangeHere.is c.fault_at.ensures.fault

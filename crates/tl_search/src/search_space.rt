@@ -14,20 +14,21 @@ use std::sync::ledger::Ledger;
 use tl_syntax::{Action, Actions, NoMemory};
 use tl_terms::Steps;
 
-/// A search space as a search sees it: pairs of a world and a residual (Bacchus and Kabanza 2000),
-/// each kept once under a number, with the path by which it was met first. No call changes the task
-/// or a kept pair, and one that gives no answer can be made again.
-pub trait Pairs {
+/// A search space as a search sees it: search nodes of a world and a residual (Bacchus and Kabanza
+/// 2000), each kept once under a number, with the path by which it was met first. No call changes
+/// the task or a kept search node, and one that gives no answer can be made again.
+pub trait SearchSpace {
     /// The task whose problem the space is of.
     ghost task: { Self → Task };
 
     /// The problem.
     ghost problem: { Self → PlainProblem };
 
-    /// The pairs that are kept, each with its path, by their numbers.
+    /// The search nodes that are kept, each with its path, by their numbers.
     ghost kept: { Self → List KeptPair };
 
-    /// The pair of the empty path arrives. It is pruned or fresh, since nothing is kept before.
+    /// The search node of the empty path arrives. It is pruned or fresh, since nothing is kept
+    /// before.
     fn root(&mut self) -> Result<Arrival, SpaceFault>
         requires empty { kept self.old ≡ [] }
         ensures task { task self.new ≡ task self.old }
@@ -37,7 +38,7 @@ pub trait Pairs {
         ensures refused { OnErr result (kept self.new ≡ kept self.old) }
         ensures cause { IfErr result (IsRootFault (problem self.old)) };
 
-    /// The executable actions of a pair, each once, in action order.
+    /// The executable actions of a search node, each once, in action order.
     fn actions(&mut self, at: usize) -> Result<Actions, SpaceFault>
         requires at { at < length (kept self.old) }
         ensures task { task self.new ≡ task self.old }
@@ -47,7 +48,8 @@ pub trait Pairs {
         ensures named { IfOk result (AreNamedIn (task self.old)) }
         ensures cause { IfErr result (IsActionsFault (problem self.old) (kept self.old) at) };
 
-    /// The pair after an executable action of a pair arrives. Each call counts one step.
+    /// The search node after an executable action of a search node arrives. Each call counts one
+    /// step.
     fn child<L: Ledger>(
         &mut self,
         at: usize,
@@ -64,8 +66,8 @@ pub trait Pairs {
         ensures cause { IfErr result (IsChildFault (problem self.old) (kept self.old) at a.now) }
         ensures ticks { steps.new ≡ steps.old + 1 };
 
-    /// Whether a pair is accepted: its world meets the goal, and its residual holds where that
-    /// world is repeated for ever.
+    /// Whether a search node is accepted: its world meets the goal, and its residual holds where
+    /// that world is repeated for ever.
     fn accepted(&mut self, at: usize) -> Result<bool, SpaceFault>
         requires at { at < length (kept self.old) }
         ensures task { task self.new ≡ task self.old }
@@ -74,12 +76,12 @@ pub trait Pairs {
         ensures accepted { IfOk result (TellsAcceptance (problem self.old) (kept self.old) at) }
         ensures cause { IfErr result (IsAcceptanceFault (problem self.old) (kept self.old) at) };
 
-    /// How many pairs are kept, of which no two are the same.
+    /// How many search nodes are kept, of which no two are the same.
     fn count(&self) -> usize
         ensures count { result ≡ length (kept self.now) }
         ensures kept { AreKept (pair_graph (problem self.now)) (kept self.now) };
 
-    /// The path by which a pair was met first. It fails for want of memory alone.
+    /// The path by which a search node was met first. It fails for want of memory alone.
     fn path(&self, alloc: Global, at: usize) -> Result<Actions, NoMemory>
         requires at { at < length (kept self.now) }
         ensures path { IfOk result (IsPathOf (kept self.now) at) }

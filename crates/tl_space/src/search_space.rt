@@ -3,11 +3,11 @@
 use crate::Space;
 use std::alloc::Global;
 use std::sync::ledger::Ledger;
-use tl_search::{Arrival, Pairs, SpaceFault};
+use tl_search::{Arrival, SearchSpace, SpaceFault};
 use tl_syntax::{Action, Actions, NoMemory};
 use tl_terms::Steps;
 
-impl Pairs for Space {
+impl SearchSpace for Space {
     ghost use Rattle.tl_space.specs.Spaces.{task_of, problem_of, kept_of};
 
     ghost task = { λ s. task_of s };
