@@ -16,13 +16,15 @@ use Rattle.tl_formulas.specs.MeaningOfFormulas.{formula_meant, formulas_meant, f
 use Rattle.tl_domain.specs.Operators.{pre_breaks}
 
 -- `pre` has one element after it
-pub pre-count : (g : NameSignature) (scope : Scope) (fs : FormTrees) (at : ℕ) → (count fs == 1) ≡ false → pre_breaks g scope fs at ≡ (Shape, at) ∷ []
+pub pre-count : (g : NameSignature) (scope : Scope) (fs : FormTrees) (at : ℕ) → (count fs == 1) ≡ false → pre_breaks g scope fs at ≡
+    (Shape, at) ∷ []
 pre-count g scope no_form at other = refl
 pre-count g scope (more_forms f no_form) at other = absurd (true≢false other)
 pre-count g scope (more_forms f (more_forms h fs)) at other = refl
 
 -- the precondition is the first of the formulas after `pre`
-pub pre-meant : (names : List (List ℕ)) (g : NameSignature) (scope : Scope) (f : FormTree) (fs : FormTrees) → first_formula (formulas_meant names g scope (more_forms f fs)) ≡ formula_meant names g scope f
+pub pre-meant : (names : List (List ℕ)) (g : NameSignature) (scope : Scope) (f : FormTree) (fs : FormTrees) →
+    first_formula (formulas_meant names g scope (more_forms f fs)) ≡ formula_meant names g scope f
 unfolding formula_meant
 pre-meant names g scope f fs = refl
 

@@ -12,7 +12,9 @@ use Rattle.tl_domain.specs.DomainTrees.{domain_tree}
 use Rattle.tl_domain.specs.MeaningOfItems.{domain_file_meant}
 use Rattle.tl_domain.proofs.KeepsFiles.{domain-is-kept}
 
-pub domain-kept : (result : Result Domain FormFault) (names : List (List ℕ)) (fs : FormTrees) → Reads domain_tree result (domain_file_breaks fs) (domain_file_meant names fs) → HaveNames names fs → IfOk result (DomainKeeps (length names))
+pub domain-kept : (result : Result Domain FormFault) (names : List (List ℕ)) (fs : FormTrees) →
+    Reads domain_tree result (domain_file_breaks fs) (domain_file_meant names fs) → HaveNames names fs →
+    IfOk result (DomainKeeps (length names))
 domain-kept (Ok d) names fs read have = domain-is-kept names fs d read.0 have read.1
 domain-kept (Err fault) names fs read have = tt
 

@@ -10,7 +10,8 @@ use Rattle.tl_rules.specs.declared.rule.Rule.TheVariants.{Shape}
 use Rattle.tl_domain.specs.DomainFiles.{has_domain_shape, domain_form_breaks}
 
 -- a domain form has a name after its first element
-pub shape-nameless : (word name : FormTree) (items : FormTrees) → is_name name ≡ false → has_domain_shape (more_forms word (more_forms name items)) ≡ false
+pub shape-nameless : (word name : FormTree) (items : FormTrees) → is_name name ≡ false →
+    has_domain_shape (more_forms word (more_forms name items)) ≡ false
 shape-nameless word name items is = ap (λ (b : Bool). is_word (codes "domain") word && b) is ∙ and-false (is_word (codes "domain") word)
 
 -- where the shape is another, that is the first rule that is broken

@@ -10,12 +10,16 @@ use Rattle.tl_domain.specs.DomainTrees.{DomainTree}
 use Rattle.tl_domain.specs.Declarations.{Declarations}
 
 -- where an item was read, the levels are those that are meant
-pub few-levels : (result : Result (Unit {0}) FormFault) (known meant : Declarations) (domain tree : DomainTree) (breaks : List Break) → Reads {Y = Declarations × DomainTree} (λ _. (known, domain)) result breaks (meant, tree) → meant.levels ≤ 64 → OnOk result (known.levels ≤ 64)
-few-levels (Ok x) known meant domain tree breaks h few = let same : known ≡ meant = ap (λ p. p.0) h.1 in subst (λ (k : Declarations). k.levels ≤ 64) (sym same) few
+pub few-levels : (result : Result (Unit {0}) FormFault) (known meant : Declarations) (domain tree : DomainTree) (breaks : List Break) →
+    Reads {Y = Declarations × DomainTree} (λ _. (known, domain)) result breaks (meant, tree) → meant.levels ≤ 64 →
+    OnOk result (known.levels ≤ 64)
+few-levels (Ok x) known meant domain tree breaks h few = let same : known ≡ meant = ap (λ p. p.0) h.1 in
+    subst (λ (k : Declarations). k.levels ≤ 64) (sym same) few
 few-levels (Err fault) known meant domain tree breaks h few = tt
 
 pub ruleset few_levels = (few-levels)
 
 -- the first break of the next item is the first of all where those before break nothing
-pub first-item : (start k : Declarations) (all left : FormTrees) (f : FormTree) (fs : FormTrees) (e : FormFault) → items_breaks start all ≡ items_breaks k left → left ≡ more_forms f fs → IsFirst (item_breaks k f) e → IsFirst (items_breaks start all) e
+pub first-item : (start k : Declarations) (all left : FormTrees) (f : FormTree) (fs : FormTrees) (e : FormFault) → items_breaks start all ≡
+    items_breaks k left → left ≡ more_forms f fs → IsFirst (item_breaks k f) e → IsFirst (items_breaks start all) e
 first-item start k all left f fs e same next h = rw (same, next) (first-front _ _ e h)

@@ -38,16 +38,22 @@ takes-more-below (suc m) (x ∷ xs) ys (suc p) n h = takes-more-below m xs ys p 
 
 pub part-of-grown : (g h : Signature) → Grows g h → IsPartOf g h
 part-of-grown g h grown = record {
-  predicates = λ p n takes. subst (λ (l : List ℕ). Takes l p n) (sym grown.predicates) (takes-more g.predicates grown.more_predicates p n takes);
-  functions = λ p n takes. subst (λ (l : List ℕ). Takes l p n) (sym grown.functions) (takes-more g.functions grown.more_functions p n takes);
-  definitions = λ p n takes. subst (λ (l : List ℕ). Takes l p n) (sym grown.definitions) (takes-more g.definitions grown.more_definitions p n takes);
+  predicates = λ p n takes. subst (λ (l : List ℕ). Takes l p n) (sym grown.predicates)
+      (takes-more g.predicates grown.more_predicates p n takes);
+  functions = λ p n takes. subst (λ (l : List ℕ). Takes l p n) (sym grown.functions)
+      (takes-more g.functions grown.more_functions p n takes);
+  definitions = λ p n takes. subst (λ (l : List ℕ). Takes l p n) (sym grown.definitions)
+      (takes-more g.definitions grown.more_definitions p n takes);
 }
 
 part-below : (m : ℕ) (g h : Signature) → Grows g h → IsPartOf (with_definitions_below m g) (with_definitions_below m h)
 part-below m g h grown = record {
-  predicates = λ p n takes. subst (λ (l : List ℕ). Takes l p n) (sym grown.predicates) (takes-more g.predicates grown.more_predicates p n takes);
-  functions = λ p n takes. subst (λ (l : List ℕ). Takes l p n) (sym grown.functions) (takes-more g.functions grown.more_functions p n takes);
-  definitions = λ p n takes. subst (λ (l : List ℕ). Takes (take m l) p n) (sym grown.definitions) (takes-more-below m g.definitions grown.more_definitions p n takes);
+  predicates = λ p n takes. subst (λ (l : List ℕ). Takes l p n) (sym grown.predicates)
+      (takes-more g.predicates grown.more_predicates p n takes);
+  functions = λ p n takes. subst (λ (l : List ℕ). Takes l p n) (sym grown.functions)
+      (takes-more g.functions grown.more_functions p n takes);
+  definitions = λ p n takes. subst (λ (l : List ℕ). Takes (take m l) p n) (sym grown.definitions)
+      (takes-more-below m g.definitions grown.more_definitions p n takes);
 }
 
 -- all definitions are those below their number
@@ -69,13 +75,15 @@ pub record DefinitionTreeKeeps (g : Signature) (n i : ℕ) (d : DefinitionTree) 
   pub levels : 1 ≤ d.levels
 
 -- all this is kept while declarations are added
-pub definition-grows : (g h : Signature) (n i : ℕ) (d : DefinitionTree) → Grows g h → DefinitionTreeKeeps g n i d → DefinitionTreeKeeps h n i d
+pub definition-grows : (g h : Signature) (n i : ℕ) (d : DefinitionTree) → Grows g h → DefinitionTreeKeeps g n i d →
+    DefinitionTreeKeeps h n i d
 definition-grows g h n i d grown k = record {
   name = k.name;
   params = k.params;
   state = k.state;
   scope = k.scope;
-  fits = formula-fits (with_definitions_below (i + 1) g) (with_definitions_below (i + 1) h) (part-below (i + 1) g h grown) (slots_of d.params) d.body k.fits;
+  fits = formula-fits (with_definitions_below (i + 1) g) (with_definitions_below (i + 1) h) (part-below (i + 1) g h grown)
+      (slots_of d.params) d.body k.fits;
   named = k.named;
   levels = k.levels;
 }
@@ -98,11 +106,18 @@ operator-grows g h n o grown k = record {
   effects_named = k.effects_named;
 }
 
-pub formula-grows : (g h : Signature) (n : ℕ) (around : List ℕ) (k : ℕ) (f : FormulaTree) → Grows g h → FormulaKeeps g n around k f → FormulaKeeps h n around k f
-formula-grows g h n around k f grown kept = record { fits = formula-fits g h (part-of-grown g h grown) around f kept.fits; below = kept.below; named = kept.named }
+pub formula-grows : (g h : Signature) (n : ℕ) (around : List ℕ) (k : ℕ) (f : FormulaTree) → Grows g h → FormulaKeeps g n around k f →
+    FormulaKeeps h n around k f
+formula-grows g h n around k f grown kept = record {
+  fits = formula-fits g h (part-of-grown g h grown) around f kept.fits;
+  below =
+      kept.below;
+  named = kept.named;
+}
 
 -- a place of two lists one after the other is one of the first, or one of the second
-pub place-of-both : {A : Type 0} (xs ys : List A) (i : ℕ) (x : A) → slice_get (xs ++ ys) i ≡ Some x → (slice_get xs i ≡ Some x) ⊎ ((j : ℕ) × (i ≡ length xs + j) × (slice_get ys j ≡ Some x))
+pub place-of-both : {A : Type 0} (xs ys : List A) (i : ℕ) (x : A) → slice_get (xs ++ ys) i ≡ Some x → (slice_get xs i ≡ Some x) ⊎
+    ((j : ℕ) × (i ≡ length xs + j) × (slice_get ys j ≡ Some x))
 place-of-both [] ys i x at = inr (i, omega arith, at)
 place-of-both (y ∷ xs) ys zero x at = inl at
 place-of-both (y ∷ xs) ys (suc i) x at = elim (place-of-both xs ys i x at) [

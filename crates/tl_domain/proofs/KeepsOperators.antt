@@ -34,7 +34,9 @@ use Rattle.tl_formulas.proofs.KeepsState.{formula-state}
 use Rattle.tl_formulas.proofs.KeepsEffects.{EffectsKeep, nothing-keeps, effects-keep}
 use Rattle.tl_domain.specs.DomainTrees.{OperatorTree}
 use Rattle.tl_rules.specs.Parts.{begins_with}
-use Rattle.tl_domain.specs.Operators.{head_breaks, parameters_of, name_in_head, leading, after_leading, bounds_clause, pre_clause, effects_clause, occurs_in_bounds, pre_breaks, bounds_clause_breaks, pre_clause_breaks, effects_clause_breaks, clauses_breaks, operator_breaks}
+use Rattle.tl_domain.specs.Operators.{head_breaks, parameters_of, name_in_head, leading, after_leading, bounds_clause, pre_clause}
+use Rattle.tl_domain.specs.Operators.{effects_clause, occurs_in_bounds, pre_breaks, bounds_clause_breaks, pre_clause_breaks}
+use Rattle.tl_domain.specs.Operators.{effects_clause_breaks, clauses_breaks, operator_breaks}
 use Rattle.tl_domain.specs.MeaningOfItems.{bounds_clause_meant, pre_clause_meant, effects_clause_meant, operator_meant}
 use Rattle.tl_domain.proofs.KeepsHeads.{head-keeps, parameters-keep, head-place, in-scope, parameters-occur}
 
@@ -84,15 +86,21 @@ leading-clause word (more_forms f fs) clause is = by_test (begins_with word f) r
     by_test true test same = ap (begins_with word) (sym (same_Some f clause same)) ∙ test
     by_test false test same = absurd (none-some clause same)
 
-bounds-clause-keeps : (names : List (List ℕ)) (g : NameSignature) (scope : Scope) (clause : Option FormTree) → length scope ≤ 32 → ClauseHas names clause → bounds_clause_breaks g scope clause ≡ [] → Each (BoundKeeps (seen g) (length names) (length scope)) (bounds_clause_meant names g scope clause)
+bounds-clause-keeps : (names : List (List ℕ)) (g : NameSignature) (scope : Scope) (clause : Option FormTree) → length scope ≤ 32 →
+    ClauseHas names clause → bounds_clause_breaks g scope clause ≡ [] →
+    Each (BoundKeeps (seen g) (length names) (length scope)) (bounds_clause_meant names g scope clause)
 bounds-clause-keeps names g scope None few has none = tt
-bounds-clause-keeps names g scope (Some clause) few has none = bounds-keep names g scope (rest_of clause) few (rest-has names clause has) none
+bounds-clause-keeps names g scope (Some clause) few has none = bounds-keep names g scope (rest_of clause) few
+    (rest-has names clause has) none
 
 -- a variable that occurs in the clause of bounds stands in one of them
-clause-stands : (names : List (List ℕ)) (g : NameSignature) (scope : Scope) (fs : FormTrees) (text : List ℕ) (v : Var) → NamesOnly g → bounds_clause_breaks g scope (bounds_clause fs) ≡ [] → IsVariable scope text v → occurs_in_bounds fs text ≡ true → list_any (stands_in v) (bounds_clause_meant names g scope (bounds_clause fs)) ≡ true
+clause-stands : (names : List (List ℕ)) (g : NameSignature) (scope : Scope) (fs : FormTrees) (text : List ℕ) (v : Var) → NamesOnly g →
+    bounds_clause_breaks g scope (bounds_clause fs) ≡ [] → IsVariable scope text v → occurs_in_bounds fs text ≡ true →
+    list_any (stands_in v) (bounds_clause_meant names g scope (bounds_clause fs)) ≡ true
 clause-stands names g scope fs text v only none is occurs = by_clause (bounds_clause fs) refl none occurs
   where
-    after-word : (clause : FormTree) → begins_with (codes "bounds") clause ≡ true → occurs_in text clause ≡ true → occurs_in_any text (rest_of clause) ≡ true
+    after-word : (clause : FormTree) → begins_with (codes "bounds") clause ≡ true → occurs_in text clause ≡ true →
+        occurs_in_any text (rest_of clause) ≡ true
     after-word (symbol other at) clause found = cc
     after-word (integer z at) clause found = cc
     after-word (list no_form at) clause found = cc
@@ -101,50 +109,76 @@ clause-stands names g scope fs text v only none is occurs = by_clause (bounds_cl
       | inr later ↦ later
     ]
 
-    by_clause : (found : Option FormTree) → bounds_clause fs ≡ found → bounds_clause_breaks g scope found ≡ [] → option_map_or (occurs_in text) found false ≡ true → list_any (stands_in v) (bounds_clause_meant names g scope found) ≡ true
+    by_clause : (found : Option FormTree) → bounds_clause fs ≡ found → bounds_clause_breaks g scope found ≡ [] →
+        option_map_or (occurs_in text) found false ≡ true → list_any (stands_in v) (bounds_clause_meant names g scope found) ≡ true
     by_clause None at right there = cc
-    by_clause (Some clause) at right there = bounds-stand names scope text v is g only (rest_of clause) right (after-word clause (leading-clause (codes "bounds") fs clause at) there)
+    by_clause (Some clause) at right there = bounds-stand names scope text v is g only (rest_of clause) right
+        (after-word clause (leading-clause (codes "bounds") fs clause at) there)
 
 -- what a precondition keeps
 record ConditionKeeps (g : domain.Signature) (n : ℕ) (around : List ℕ) (k : ℕ) (f : FormulaTree) : Type 0 where
   pub formula : FormulaKeeps g n around k f
   pub state : IsState f
 
-pre-clause-keeps : (names : List (List ℕ)) (g : NameSignature) (around : List ℕ) (scope : Scope) (clause : Option FormTree) → IsPlace g around scope → ClauseHas names clause → pre_clause_breaks g scope clause ≡ [] → ConditionKeeps (seen g) (length names) around (length scope) (pre_clause_meant names g scope clause)
+pre-clause-keeps : (names : List (List ℕ)) (g : NameSignature) (around : List ℕ) (scope : Scope) (clause : Option FormTree) →
+    IsPlace g around scope → ClauseHas names clause → pre_clause_breaks g scope clause ≡ [] →
+    ConditionKeeps (seen g) (length names) around (length scope) (pre_clause_meant names g scope clause)
 unfolding formulas_meant
-pre-clause-keeps names g around scope None place has none = record { formula = constant-keeps (seen g) (length names) around (length scope); state = tt }
+pre-clause-keeps names g around scope None place has none = record {
+  formula =
+      constant-keeps (seen g) (length names) around (length scope);
+  state = tt;
+}
 pre-clause-keeps names g around scope (Some clause) place has none = elements (rest_of clause) (rest-has names clause has) none
   where
-    elements : (fs : FormTrees) → HaveNames names fs → pre_breaks g scope fs (offset_of clause) ≡ [] → ConditionKeeps (seen g) (length names) around (length scope) (first_formula (formulas_meant names g scope fs))
+    elements : (fs : FormTrees) → HaveNames names fs → pre_breaks g scope fs (offset_of clause) ≡ [] →
+        ConditionKeeps (seen g) (length names) around (length scope) (first_formula (formulas_meant names g scope fs))
     elements no_form own later = cc
-    elements (more_forms f no_form) own later = record { formula = formula-keeps names role.State g around scope f place own.0 later; state = formula-state names role.State g scope f refl later }
+    elements (more_forms f no_form) own later = record {
+      formula = formula-keeps names role.State g around scope f place own.0 later;
+      state = formula-state names role.State g scope f refl later;
+    }
     elements (more_forms f (more_forms h fs)) own later = cc
 
-effects-clause-keeps : (names : List (List ℕ)) (g : NameSignature) (around : List ℕ) (scope : Scope) (clause : Option FormTree) → IsPlace g around scope → ClauseHas names clause → effects_clause_breaks g scope clause ≡ [] → EffectsKeep (seen g) (length names) around (length scope) (effects_clause_meant names g scope clause)
+effects-clause-keeps : (names : List (List ℕ)) (g : NameSignature) (around : List ℕ) (scope : Scope) (clause : Option FormTree) →
+    IsPlace g around scope → ClauseHas names clause → effects_clause_breaks g scope clause ≡ [] →
+    EffectsKeep (seen g) (length names) around (length scope) (effects_clause_meant names g scope clause)
 effects-clause-keeps names g around scope None place has none = nothing-keeps (seen g) (length names) around (length scope)
-effects-clause-keeps names g around scope (Some clause) place has none = effects-keep names g around scope (rest_of clause) place (rest-has names clause has) none
+effects-clause-keeps names g around scope (Some clause) place has none =
+    effects-keep names g around scope (rest_of clause) place (rest-has names clause has) none
 
-pub operator-keeps : (names : List (List ℕ)) (g : NameSignature) (operators : List (List ℕ)) (head : FormTree) (clauses : FormTrees) → NamesOnly g → is_list head ≡ true → HasNames names head → HaveNames names clauses → operator_breaks g operators (more_forms head clauses) ≡ [] → OperatorTreeKeeps (seen g) (length names) (operator_meant names g head clauses)
+pub operator-keeps : (names : List (List ℕ)) (g : NameSignature) (operators : List (List ℕ)) (head : FormTree) (clauses : FormTrees) →
+    NamesOnly g → is_list head ≡ true → HasNames names head → HaveNames names clauses →
+    operator_breaks g operators (more_forms head clauses) ≡ [] → OperatorTreeKeeps (seen g) (length names)
+    (operator_meant names g head clauses)
 operator-keeps names g operators head clauses only shape has_head has none =
     let old = λ (text : List ℕ). list_any (bytes_eq text) operators in
     let scope = parameters_of head in
     let params = variables_from names 0 (parameters_of head) in
     let parts = none-parts (head_breaks 16 old (occurs_in_bounds clauses) head) (clauses_breaks g scope clauses) none in
     let first = none-parts (bounds_clause_breaks g scope (bounds_clause clauses)) _ parts.1 in
-    let later = none-parts (pre_clause_breaks g scope (pre_clause clauses)) (effects_clause_breaks g scope (effects_clause clauses)) first.1 in
+    let later = none-parts (pre_clause_breaks g scope (pre_clause clauses))
+    (effects_clause_breaks g scope (effects_clause clauses)) first.1 in
     let kept = head-keeps names 16 old (occurs_in_bounds clauses) head shape has_head parts.0 in
     let place = head-place names 16 old (occurs_in_bounds clauses) g head (omega arith) only kept in
     let after_bounds = after-has names (codes "bounds") clauses has in
     let after_pre = after-has names (codes "pre") (after_leading (codes "bounds") clauses) after_bounds in
-    let bounds = bounds-clause-keeps names g scope (bounds_clause clauses) place.few (leading-has names (codes "bounds") clauses has) first.0 in
-    let pre = pre-clause-keeps names g (slots_of params) scope (pre_clause clauses) place (leading-has names (codes "pre") _ after_bounds) later.0 in
-    let effects = effects-clause-keeps names g (slots_of params) scope (effects_clause clauses) place (leading-has names (codes "effects") _ after_pre) later.1 in
+    let bounds = bounds-clause-keeps names g scope (bounds_clause clauses) place.few
+    (leading-has names (codes "bounds") clauses has) first.0 in
+    let pre = pre-clause-keeps names g (slots_of params) scope (pre_clause clauses) place
+    (leading-has names (codes "pre") _ after_bounds) later.0 in
+    let effects = effects-clause-keeps names g (slots_of params) scope (effects_clause clauses) place
+    (leading-has names (codes "effects") _ after_pre) later.1 in
     let keeps = BoundKeeps (seen g) (length names) (length scope) in
     record {
       name = number-below names (name_in_head head) kept.name;
       params = parameters-keep names 16 old (occurs_in_bounds clauses) head kept;
-      bounded = parameters-occur names (occurs_in_bounds clauses) (λ s. IsTrue (list_any (stands_in s) (bounds_clause_meant names g scope (bounds_clause clauses)))) [] (rest_of head) scope refl kept.variables kept.fresh (λ text v is occurs. clause-stands names g scope clauses text v only first.0 is occurs);
-      bounds_scope = Each-implies keeps (λ b. InScope (slots_of params) (bound_slots b)) (λ b h. in-scope names scope (bound_slots b) h.below) _ bounds;
+      bounded = parameters-occur names (occurs_in_bounds clauses) (λ s.
+          IsTrue (list_any (stands_in s) (bounds_clause_meant names g scope (bounds_clause clauses)))) []
+          (rest_of head) scope refl kept.variables kept.fresh (λ text v is occurs.
+          clause-stands names g scope clauses text v only first.0 is occurs);
+      bounds_scope = Each-implies keeps (λ b. InScope (slots_of params) (bound_slots b))
+          (λ b h. in-scope names scope (bound_slots b) h.below) _ bounds;
       bounds_fit = Each-implies keeps (BoundFits (seen g)) (λ b h. h.fits) _ bounds;
       bounds_named = Each-implies keeps (BoundIsNamed (length names)) (λ b h. h.named) _ bounds;
       state = pre.state;

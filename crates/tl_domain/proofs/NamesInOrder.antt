@@ -1,5 +1,6 @@
 -- Names in the order of their bytes: lists of the same texts are the same list.
-use Rattle.std.proofs.Common.{◌≡◌, ◌<◌, ◌+◌, ◌^◌, ◌⊎◌, inl, inr, ℕ, zero, suc, List, [], ◌∷◌, true, length, Ordering, Less, Equal, Greater, Some, refl, sym, ap, ◌∙◌, subst, arith}
+use Rattle.std.proofs.Common.{◌≡◌, ◌<◌, ◌+◌, ◌^◌, ◌⊎◌, inl, inr, ℕ, zero, suc, List, [], ◌∷◌, true, length, Ordering, Less, Equal, Greater}
+use Rattle.std.proofs.Common.{Some, refl, sym, ap, ◌∙◌, subst, arith}
 use Rattle.std.specs.Prelude.{◌↔◌, IsPermutation}
 use Rattle.std.specs.List.{slice_get, list_any}
 use Rattle.std.specs.Cmp.Lexicographic.{slice_cmp, nat_list_cmp_total}
@@ -46,13 +47,17 @@ rest-in-order x xs h = λ i j y z less at_i at_j. h (suc i) (suc j) y z (omega (
 below-rest : (x : List ℕ) (xs : List (List ℕ)) (t : List ℕ) (k : ℕ) → IsInOrder (x ∷ xs) → slice_get xs k ≡ Some t → Below x t
 below-rest x xs t k h at = h 0 (suc k) x t (omega arith) refl at
 
-same-first : (x y : List ℕ) (xs ys : List (List ℕ)) → IsInOrder (x ∷ xs) → IsInOrder (y ∷ ys) → (j k : ℕ) → slice_get (y ∷ ys) j ≡ Some x → slice_get (x ∷ xs) k ≡ Some y → x ≡ y
+same-first : (x y : List ℕ) (xs ys : List (List ℕ)) → IsInOrder (x ∷ xs) → IsInOrder (y ∷ ys) → (j k : ℕ) → slice_get (y ∷ ys) j ≡ Some x →
+    slice_get (x ∷ xs) k ≡ Some y → x ≡ y
 same-first x y xs ys h g zero k at_j at_k = sym (same_Some y x at_j)
 same-first x y xs ys h g (suc j) zero at_j at_k = same_Some x y at_k
 same-first x y xs ys h g (suc j) (suc k) at_j at_k = absurd (not-both x y (below-rest x xs y k h at_k) (below-rest y ys x j g at_j))
 
-rest-has : (x : List ℕ) (xs ys : List (List ℕ)) (t : List ℕ) (j k : ℕ) → IsInOrder (x ∷ xs) → slice_get xs j ≡ Some t → slice_get (x ∷ ys) k ≡ Some t → Has ys t
-rest-has x xs ys t j zero h at_j at_k = absurd (not-both x t (below-rest x xs t j h at_j) (subst (λ (u : List ℕ). Below u x) (same_Some x t at_k) (subst (λ (u : List ℕ). Below x u) (sym (same_Some x t at_k)) (below-rest x xs t j h at_j))))
+rest-has : (x : List ℕ) (xs ys : List (List ℕ)) (t : List ℕ) (j k : ℕ) → IsInOrder (x ∷ xs) → slice_get xs j ≡ Some t →
+    slice_get (x ∷ ys) k ≡ Some t → Has ys t
+rest-has x xs ys t j zero h at_j at_k = absurd (not-both x t (below-rest x xs t j h at_j)
+    (subst (λ (u : List ℕ). Below u x) (same_Some x t at_k) (subst (λ (u : List ℕ). Below x u) (sym (same_Some x t at_k))
+    (below-rest x xs t j h at_j))))
 rest-has x xs ys t j (suc k) h at_j at_k = (k, at_k)
 
 rest-has-all : (x : List ℕ) (xs ys : List (List ℕ)) → IsInOrder (x ∷ xs) → HasAll (x ∷ ys) (x ∷ xs) → HasAll ys xs
@@ -110,7 +115,8 @@ key-among x (y ∷ ys) t h = by_answer (key-among x ys t) (slice_cmp nat_cmp x y
     after : (x ≡ t) ⊎ Among t (y ∷ ys) → (y ≡ t) ⊎ ((x ≡ t) ⊎ Among t ys)
     after g = elim g [ inl same ↦ inr (inl same) | inr there ↦ elim there [ inl here ↦ inl here | inr later ↦ inr (inr later) ] ]
 
-    by_answer : ((x ≡ t) ⊎ Among t ys → Among t (with_key ys x)) → (o : Ordering) → slice_cmp nat_cmp x y ≡ o → Among t (match_ordering o (x ∷ y ∷ ys) (y ∷ ys) (y ∷ with_key ys x))
+    by_answer : ((x ≡ t) ⊎ Among t ys → Among t (with_key ys x)) → (o : Ordering) → slice_cmp nat_cmp x y ≡ o →
+        Among t (match_ordering o (x ∷ y ∷ ys) (y ∷ ys) (y ∷ with_key ys x))
     by_answer deeper Less e = h
     by_answer deeper Equal e = elim h [ inl same ↦ inl (sym (same-text x y e) ∙ same) | inr there ↦ there ]
     by_answer deeper Greater e = elim (after h) [ inl here ↦ inl here | inr later ↦ inr (deeper later) ]
@@ -120,7 +126,8 @@ among-key : (x : List ℕ) (ys : List (List ℕ)) (t : List ℕ) → Among t (wi
 among-key x [] t h = h
 among-key x (y ∷ ys) t h = by_answer (among-key x ys t) (slice_cmp nat_cmp x y) h
   where
-    by_answer : (Among t (with_key ys x) → (x ≡ t) ⊎ Among t ys) → (o : Ordering) → Among t (match_ordering o (x ∷ y ∷ ys) (y ∷ ys) (y ∷ with_key ys x)) → (x ≡ t) ⊎ Among t (y ∷ ys)
+    by_answer : (Among t (with_key ys x) → (x ≡ t) ⊎ Among t ys) → (o : Ordering) →
+        Among t (match_ordering o (x ∷ y ∷ ys) (y ∷ ys) (y ∷ with_key ys x)) → (x ≡ t) ⊎ Among t (y ∷ ys)
     by_answer deeper Less g = g
     by_answer deeper Equal g = inr g
     by_answer deeper Greater g = elim g [
@@ -134,7 +141,8 @@ Above x ys = (t : List ℕ) → Among t ys → Below x t
 
 first-in-order : (x : List ℕ) (ys : List (List ℕ)) → IsInOrder ys → Above x ys → IsInOrder (x ∷ ys)
 first-in-order x ys h above zero zero y z less at_i at_j = absurd (omega (arith, less))
-first-in-order x ys h above zero (suc j) y z less at_i at_j = subst (λ (u : List ℕ). Below u z) (same_Some x y at_i) (above z (place-among z ys j at_j))
+first-in-order x ys h above zero (suc j) y z less at_i at_j = subst (λ (u : List ℕ). Below u z) (same_Some x y at_i)
+    (above z (place-among z ys j at_j))
 first-in-order x ys h above (suc i) zero y z less at_i at_j = absurd (omega (arith, less))
 first-in-order x ys h above (suc i) (suc j) y z less at_i at_j = h i j y z (omega (arith, less)) at_i at_j
 
@@ -157,7 +165,8 @@ key-in-order x (y ∷ ys) h = by_answer (key-in-order x ys (rest-in-order y ys h
       | inr later ↦ rest-above y ys h t later
     ]
 
-    by_answer : IsInOrder (with_key ys x) → (o : Ordering) → slice_cmp nat_cmp x y ≡ o → IsInOrder (match_ordering o (x ∷ y ∷ ys) (y ∷ ys) (y ∷ with_key ys x))
+    by_answer : IsInOrder (with_key ys x) → (o : Ordering) → slice_cmp nat_cmp x y ≡ o →
+        IsInOrder (match_ordering o (x ∷ y ∷ ys) (y ∷ ys) (y ∷ with_key ys x))
     by_answer rest Less e = first-in-order x (y ∷ ys) h (lower e)
     by_answer rest Equal e = h
     by_answer rest Greater e = first-in-order y (with_key ys x) rest (higher (nat_list_cmp_total.antisymm y x ∙ ap ordering_reverse e))
@@ -169,7 +178,11 @@ are-in-order (x ∷ xs) = key-in-order x (in_order xs) (are-in-order xs)
 among-order : (xs : List (List ℕ)) (t : List ℕ) → Among t xs ↔ Among t (in_order xs)
 among-order [] t = ((λ h. h), (λ h. h))
 among-order (x ∷ xs) t = (
-  (λ h. elim h [ inl here ↦ key-among x (in_order xs) t (inl here) | inr later ↦ key-among x (in_order xs) t (inr ((among-order xs t).0 later)) ]),
+  (λ h. elim h [
+    | inl here ↦ key-among x (in_order xs) t (inl here)
+    | inr later ↦ key-among x (in_order xs) t
+        (inr ((among-order xs t).0 later))
+  ]),
   (λ h. elim (among-key x (in_order xs) t h) [ inl here ↦ inl here | inr later ↦ inr ((among-order xs t).1 later) ]),
 )
 
@@ -179,7 +192,8 @@ among-order (x ∷ xs) t = (
 abbrev read_names : FormTrees → FormTrees → List (List ℕ)
 read_names first second = names_with_all (names_with_all [] first) second
 
-texts-read : (first second : FormTrees) (text : List ℕ) → (list_any (bytes_eq text) (read_names first second) ≡ true) ↔ (HaveSymbol first text ⊎ HaveSymbol second text)
+texts-read : (first second : FormTrees) (text : List ℕ) → (list_any (bytes_eq text) (read_names first second) ≡ true) ↔
+    (HaveSymbol first text ⊎ HaveSymbol second text)
 texts-read first second text = (there, back)
   where
     there : list_any (bytes_eq text) (read_names first second) ≡ true → HaveSymbol first text ⊎ HaveSymbol second text
@@ -190,7 +204,8 @@ texts-read first second text = (there, back)
 
     back : HaveSymbol first text ⊎ HaveSymbol second text → list_any (bytes_eq text) (read_names first second) ≡ true
     back h = elim h [
-      | inl here ↦ (forms-grow (names_with_all [] first) second).has text (symbols-named (names_with_all [] first) first text (forms-have [] first) here)
+      | inl here ↦ (forms-grow (names_with_all [] first) second).has text
+          (symbols-named (names_with_all [] first) first text (forms-have [] first) here)
       | inr later ↦ symbols-named (read_names first second) second text (forms-have (names_with_all [] first) second) later
     ]
 
@@ -205,7 +220,8 @@ names-are-texts first second = record {
 }
 
 -- and so are the same names in another list, where this one is in order
-names-stand : (first second : FormTrees) (new : List (List ℕ)) → IsPermutation (read_names first second) new → IsInOrder new → AreNamesOf first second new
+names-stand : (first second : FormTrees) (new : List (List ℕ)) → IsPermutation (read_names first second) new → IsInOrder new →
+    AreNamesOf first second new
 names-stand first second new moved order = record {
   in_order = order;
   are_texts = λ text.
@@ -214,16 +230,21 @@ names-stand first second new moved order = record {
       ((λ h. read.0 (same ∙ among-any text new h)), (λ h. any-among text new (sym same ∙ read.1 h)));
 }
 
-pub settled-names : (first second fs gs : FormTrees) (none one two new : List (List ℕ)) → fs ≡ first → gs ≡ second → none ≡ [] → one ≡ names_with_all none fs → two ≡ names_with_all one gs → IsPermutation two new → IsInOrder new → new ≡ names_of first second
+pub settled-names : (first second fs gs : FormTrees) (none one two new : List (List ℕ)) → fs ≡ first → gs ≡ second → none ≡ [] → one ≡
+    names_with_all none fs → two ≡ names_with_all one gs → IsPermutation two new → IsInOrder new → new ≡ names_of first second
 settled-names first second fs gs none one two new is_first is_second is_none is_one is_two moved order =
-    let here : one ≡ names_with_all [] first = is_one ∙ ap (λ (ns : List (List ℕ)). names_with_all ns fs) is_none ∙ ap (names_with_all []) is_first in
-    let is : two ≡ read_names first second = is_two ∙ ap (names_with_all one) is_second ∙ ap (λ (ns : List (List ℕ)). names_with_all ns second) here in
-    one-list first second new (names_of first second) (names-stand first second new (subst (λ (ns : List (List ℕ)). IsPermutation ns new) is moved) order) (names-are-texts first second)
+    let here : one ≡ names_with_all [] first = is_one ∙ ap (λ (ns : List (List ℕ)). names_with_all ns fs) is_none ∙
+    ap (names_with_all []) is_first in
+    let is : two ≡ read_names first second = is_two ∙ ap (names_with_all one) is_second ∙
+    ap (λ (ns : List (List ℕ)). names_with_all ns second) here in
+    one-list first second new (names_of first second) (names-stand first second new
+    (subst (λ (ns : List (List ℕ)). IsPermutation ns new) is moved) order) (names-are-texts first second)
 
 -- both files have names for all their symbols
 grows : (first second : FormTrees) → Grow (read_names first second) (names_of first second)
 grows first second = record {
-  has = λ text h. among-any text (names_of first second) ((among-order (read_names first second) text).0 (any-among text (read_names first second) h));
+  has = λ text h. among-any text (names_of first second) ((among-order (read_names first second) text).0
+      (any-among text (read_names first second) h));
 }
 
 pub names-have : (first second : FormTrees) → HaveNames (names_of first second) first × HaveNames (names_of first second) second
@@ -233,9 +254,11 @@ names-have first second = (
 )
 
 -- there is room for the symbols of the first file, and then for those of the second
-pub room-first : (first second fs : FormTrees) (none : List (List ℕ)) → HaveRoomTogether first second → fs ≡ first → none ≡ [] → length none + symbols_in_all fs < 2 ^ 32
+pub room-first : (first second fs : FormTrees) (none : List (List ℕ)) → HaveRoomTogether first second → fs ≡ first → none ≡ [] →
+    length none + symbols_in_all fs < 2 ^ 32
 room-first first second fs none room is_first is_none = rw (is_first, is_none) (omega (arith, room))
 
-pub room-after : (first second fs gs : FormTrees) (none one : List (List ℕ)) → HaveRoomTogether first second → fs ≡ first → gs ≡ second → none ≡ [] → one ≡ names_with_all none fs → length one + symbols_in_all gs < 2 ^ 32
+pub room-after : (first second fs gs : FormTrees) (none one : List (List ℕ)) → HaveRoomTogether first second → fs ≡ first → gs ≡ second →
+    none ≡ [] → one ≡ names_with_all none fs → length one + symbols_in_all gs < 2 ^ 32
 room-after first second fs gs none one room is_first is_second is_none is_one =
     rw (is_one, is_none, is_first, is_second) (omega (arith, room, length-names_with_all [] first))

@@ -39,7 +39,14 @@ abbrev pub definition_tree : Definition → DefinitionTree
 definition_tree d = record { name = d.name; params = d.params; body = tree_of_formula d.body; levels = d.levels }
 
 abbrev pub operator_tree : Operator → OperatorTree
-operator_tree o = record { name = o.name; params = o.params; bounds = o.bounds; pre = tree_of_formula o.pre; effects = tree_of_effects o.effects }
+operator_tree o = record {
+  name = o.name;
+  params = o.params;
+  bounds = o.bounds;
+  pre = tree_of_formula o.pre;
+  effects =
+      tree_of_effects o.effects;
+}
 
 abbrev pub domain_tree : Domain → DomainTree
 domain_tree d = record {

@@ -13,17 +13,21 @@ use Rattle.tl_formulas.specs.MeaningOfFormulas.{atom_at, atom_meant}
 use Rattle.tl_formulas.specs.Signatures.{place_of}
 
 -- the atom of what is named
-pub predicate-named : (g : NameSignature) (text : List ℕ) (ts : TermTrees) (p : ℕ) → Predicate p ≡ atom_name g text → atom p ts ≡ atom_meant g text ts
+pub predicate-named : (g : NameSignature) (text : List ℕ) (ts : TermTrees) (p : ℕ) → Predicate p ≡ atom_name g text → atom p ts ≡
+    atom_meant g text ts
 predicate-named g text ts p = by_places (place_of g.predicates text) (place_of g.definitions text)
   where
-    by_places : (predicate definition : Option ℕ) → Predicate p ≡ atom_name_at predicate definition → atom p ts ≡ atom_at predicate definition ts
+    by_places : (predicate definition : Option ℕ) → Predicate p ≡ atom_name_at predicate definition → atom p ts ≡
+        atom_at predicate definition ts
     by_places (Some q) definition e = cc
     by_places None definition e = cc
 
-pub definition-named : (g : NameSignature) (text : List ℕ) (ts : TermTrees) (d : ℕ) → Definition d ≡ atom_name g text → defined d ts ≡ atom_meant g text ts
+pub definition-named : (g : NameSignature) (text : List ℕ) (ts : TermTrees) (d : ℕ) → Definition d ≡ atom_name g text → defined d ts ≡
+    atom_meant g text ts
 definition-named g text ts d = by_places (place_of g.predicates text) (place_of g.definitions text)
   where
-    by_places : (predicate definition : Option ℕ) → Definition d ≡ atom_name_at predicate definition → defined d ts ≡ atom_at predicate definition ts
+    by_places : (predicate definition : Option ℕ) → Definition d ≡ atom_name_at predicate definition → defined d ts ≡
+        atom_at predicate definition ts
     by_places (Some q) definition e = cc
     by_places None definition e = cc
 

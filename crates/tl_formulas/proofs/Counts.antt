@@ -10,7 +10,8 @@ use Rattle.tl_formulas.specs.Formulas.{has_quantifier_shape, has_counted_shape}
 use Rattle.tl_formulas.specs.Effects.{has_target_shape, has_set_shape}
 use Rattle.tl_rules.specs.Parts.{count}
 
-pub equality_count : (g : NameSignature) (scope : Scope) (fs : FormTrees) (at : ℕ) → (count fs == 2) ≡ false → equality_breaks g scope fs at ≡ (Shape, at) ∷ []
+pub equality_count : (g : NameSignature) (scope : Scope) (fs : FormTrees) (at : ℕ) → (count fs == 2) ≡ false →
+    equality_breaks g scope fs at ≡ (Shape, at) ∷ []
 equality_count g scope no_form at other = refl
 equality_count g scope (more_forms f no_form) at other = cases f
   where
@@ -32,7 +33,8 @@ equality_count g scope (more_forms f (more_forms h (more_forms i fs))) at other 
     cases (list (more_forms (integer z _) gs) _) = refl
     cases (list (more_forms (list hs _) gs) _) = refl
 
-pub goal_count : (g : NameSignature) (scope : Scope) (fs : FormTrees) (at : ℕ) → (count fs == 1) ≡ false → goal_bound_breaks g scope fs at ≡ (Shape, at) ∷ []
+pub goal_count : (g : NameSignature) (scope : Scope) (fs : FormTrees) (at : ℕ) → (count fs == 1) ≡ false → goal_bound_breaks g scope fs at ≡
+    (Shape, at) ∷ []
 goal_count g scope no_form at other = refl
 goal_count g scope (more_forms f no_form) at other = absurd (true≢false other)
 goal_count g scope (more_forms f (more_forms h fs)) at other = refl

@@ -16,10 +16,12 @@ after_effects-end [] = refl
 after_effects-end (e ∷ es) = ap (more_effects e) (after_effects-end es)
 
 -- an effect more
-pub effects-more : (ds es : List Effect) (e : Effect) (rest : EffectTrees) → es ≡ ds ++ e ∷ [] → after_effects (map tree_of_effect es) rest ≡ after_effects (map tree_of_effect ds) (more_effects (tree_of_effect e) rest)
+pub effects-more : (ds es : List Effect) (e : Effect) (rest : EffectTrees) → es ≡ ds ++ e ∷ [] →
+    after_effects (map tree_of_effect es) rest ≡ after_effects (map tree_of_effect ds) (more_effects (tree_of_effect e) rest)
 effects-more ds es e rest is = ap (λ xs. after_effects (map tree_of_effect xs) rest) is ∙ pushed ds
   where
-    pushed : (xs : List Effect) → after_effects (map tree_of_effect (xs ++ e ∷ [])) rest ≡ after_effects (map tree_of_effect xs) (more_effects (tree_of_effect e) rest)
+    pushed : (xs : List Effect) → after_effects (map tree_of_effect (xs ++ e ∷ [])) rest ≡
+        after_effects (map tree_of_effect xs) (more_effects (tree_of_effect e) rest)
     pushed [] = refl
     pushed (x ∷ xs) = ap (more_effects (tree_of_effect x)) (pushed xs)
 

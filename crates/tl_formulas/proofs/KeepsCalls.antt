@@ -1,5 +1,6 @@
 -- Calls, variables and arguments that break nothing: what is called takes its arguments, and a variable has a slot of its scope.
-use Rattle.std.proofs.Common.{◌≡◌, ◌<◌, ◌≤◌, ℕ, List, [], Bool, true, false, not, length, map, Some, None, refl, sym, ap, ◌∙◌, arith, ◌==◌, subst}
+use Rattle.std.proofs.Common.{◌≡◌, ◌<◌, ◌≤◌, ℕ, List, [], Bool, true, false, not, length, map, Some, None, refl, sym, ap, ◌∙◌, arith, ◌==◌}
+use Rattle.std.proofs.Common.{subst}
 use Rattle.std.specs.Prelude.{Option, ◌&&◌, is_some, unwrap_or, if◌then◌else◌, flat_map}
 use Rattle.tl_syntax.specs.declared.value.Value.TheVariants.{Sym}
 use Rattle.std.specs.List.{slice_get, list_any}
@@ -49,11 +50,13 @@ arity-takes table i n h = slice_get-map (λ e. e.1) table i ∙ by_item (slice_g
     by_item None test = cc
     by_item (Some e) test = ap (λ (k : ℕ). Some k) (eqb-true e.1 n test)
 
-pub called-at-takes : (table : Table) (found : Option ℕ) (n at : ℕ) → call_breaks_at table found n at ≡ [] → Takes (arities table) (unwrap_or found 0) n
+pub called-at-takes : (table : Table) (found : Option ℕ) (n at : ℕ) → call_breaks_at table found n at ≡ [] →
+    Takes (arities table) (unwrap_or found 0) n
 called-at-takes table None n at none = cc
 called-at-takes table (Some i) n at none = arity-takes table i n (test-passes (has_arity table i n) Arity at none)
 
-pub called-takes : (table : Table) (text : List ℕ) (n at : ℕ) → call_breaks table text n at ≡ [] → Takes (arities table) (unwrap_or (place_of table text) 0) n
+pub called-takes : (table : Table) (text : List ℕ) (n at : ℕ) → call_breaks table text n at ≡ [] →
+    Takes (arities table) (unwrap_or (place_of table text) 0) n
 called-takes table text n at none = called-at-takes table (place_of table text) n at none
 
 -- what is called is in the table
@@ -74,20 +77,30 @@ pub record ArgKeeps (n k : ℕ) (x : Arg) : Type 0 where
   pub below : Each (λ q. q < k) (arg_slots x)
   pub named : ArgIsNamed n x
 
-pub symbol-keeps : (names : List (List ℕ)) (scope : Scope) (text : List ℕ) (at : ℕ) → length scope ≤ 32 → list_any (bytes_eq text) names ≡ true → unbound_breaks scope (symbol text at) ≡ [] → ArgKeeps (length names) (length scope) (symbol_meant names scope text)
+pub symbol-keeps : (names : List (List ℕ)) (scope : Scope) (text : List ℕ) (at : ℕ) → length scope ≤ 32 → list_any (bytes_eq text) names ≡
+    true → unbound_breaks scope (symbol text at) ≡ [] → ArgKeeps (length names) (length scope) (symbol_meant names scope text)
 symbol-keeps names scope text at few has none = by_test (is_variable text) (slot_of scope text) refl none
   where
-    by_test : (b : Bool) (found : Option ℕ) → slot_of scope text ≡ found → breaks_if (b && not (is_some found)) Unbound at ≡ [] → ArgKeeps (length names) (length scope) (if b then arg.Var (record { slot = unwrap_or found 0; name = number_in names text }) else arg.Val (Sym (number_in names text)))
+    by_test : (b : Bool) (found : Option ℕ) → slot_of scope text ≡ found → breaks_if (b && not (is_some found)) Unbound at ≡ [] →
+        ArgKeeps (length names) (length scope) (if b then arg.Var (record { slot = unwrap_or found 0; name = number_in names text }) else
+        arg.Val (Sym (number_in names text)))
     by_test true None is h = cc
-    by_test true (Some k) is h = record { fits = omega (arith, slot-below scope text k is); below = (slot-below scope text k is, tt); named = number-below names text has }
+    by_test true (Some k) is h = record {
+      fits = omega (arith, slot-below scope text k is);
+      below =
+          (slot-below scope text k is, tt);
+      named = number-below names text has;
+    }
     by_test false found is h = record { fits = tt; below = tt; named = number-below names text has }
 
-pub argument-keeps : (names : List (List ℕ)) (scope : Scope) (f : FormTree) → length scope ≤ 32 → HasNames names f → unbound_breaks scope f ≡ [] → ArgKeeps (length names) (length scope) (argument_meant names scope f)
+pub argument-keeps : (names : List (List ℕ)) (scope : Scope) (f : FormTree) → length scope ≤ 32 → HasNames names f →
+    unbound_breaks scope f ≡ [] → ArgKeeps (length names) (length scope) (argument_meant names scope f)
 argument-keeps names scope (symbol text at) few has none = symbol-keeps names scope text at few has none
 argument-keeps names scope (integer z at) few has none = record { fits = tt; below = tt; named = tt }
 argument-keeps names scope (list fs at) few has none = record { fits = tt; below = tt; named = tt }
 
-pub arguments-keep : (names : List (List ℕ)) (scope : Scope) (fs : FormTrees) → length scope ≤ 32 → HaveNames names fs → arguments_breaks scope fs ≡ [] → Each (ArgKeeps (length names) (length scope)) (arguments_meant names scope fs)
+pub arguments-keep : (names : List (List ℕ)) (scope : Scope) (fs : FormTrees) → length scope ≤ 32 → HaveNames names fs →
+    arguments_breaks scope fs ≡ [] → Each (ArgKeeps (length names) (length scope)) (arguments_meant names scope fs)
 arguments-keep names scope no_form few has none = tt
 arguments-keep names scope (more_forms f fs) few has none =
     let parts = none-parts (unbound_breaks scope f) (arguments_breaks scope fs) none in
@@ -105,8 +118,13 @@ pub args-named : (n k : ℕ) (xs : List Arg) → Each (ArgKeeps n k) xs → Each
 args-named n k xs h = Each-implies (ArgKeeps n k) (ArgIsNamed n) (λ x r. r.named) xs h
 
 pub args-below : (n k : ℕ) (xs : List Arg) → Each (ArgKeeps n k) xs → Each (λ q. q < k) (flat_map arg_slots xs)
-args-below n k xs h = Each-flat (λ q. q < k) arg_slots xs (Each-implies (ArgKeeps n k) (λ x. Each (λ q. q < k) (arg_slots x)) (λ x r. r.below) xs h)
+args-below n k xs h = Each-flat (λ q. q < k) arg_slots xs (Each-implies (ArgKeeps n k) (λ x. Each (λ q. q < k) (arg_slots x))
+    (λ x r. r.below) xs h)
 
 -- the arguments that forms stand for fit where their number is taken
-pub arguments-fit : (names : List (List ℕ)) (scope : Scope) (fs : FormTrees) (taken : List ℕ) (p : ℕ) → Takes taken p (count fs) → Each (ArgKeeps (length names) (length scope)) (arguments_meant names scope fs) → ArgsFit taken p (arguments_meant names scope fs)
-arguments-fit names scope fs taken p takes h = (subst (λ (n : ℕ). Takes taken p n) (sym (arguments-count names scope fs)) takes, args-fit _ _ _ h)
+pub arguments-fit : (names : List (List ℕ)) (scope : Scope) (fs : FormTrees) (taken : List ℕ) (p : ℕ) → Takes taken p (count fs) →
+    Each (ArgKeeps (length names) (length scope)) (arguments_meant names scope fs) → ArgsFit taken p (arguments_meant names scope fs)
+arguments-fit names scope fs taken p takes h = (
+  subst (λ (n : ℕ). Takes taken p n) (sym (arguments-count names scope fs)) takes,
+  args-fit _ _ _ h,
+)

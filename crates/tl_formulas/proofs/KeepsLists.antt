@@ -1,5 +1,6 @@
 -- What is used of lists, tests and breaks, where nothing is broken.
-use Rattle.std.proofs.Common.{◌≡◌, ◌<◌, ◌≤◌, ℕ, List, [], ◌∷◌, ◌++◌, Bool, true, false, cond, not, flat_map, refl, sym, ap, ◌∙◌, arith, inl, inr}
+use Rattle.std.proofs.Common.{◌≡◌, ◌<◌, ◌≤◌, ℕ, List, [], ◌∷◌, ◌++◌, Bool, true, false, cond, not, flat_map, refl, sym, ap, ◌∙◌, arith, inl}
+use Rattle.std.proofs.Common.{inr}
 use Rattle.std.specs.Prelude.{◌||◌}
 use Rattle.std.proofs.lemmas.Bool.{true≢false, ne_eqb, cases_lt}
 use Rattle.tl_syntax.specs.Lists.{Each}
@@ -36,15 +37,18 @@ Each-flat P f (x ∷ xs) h = Each-both P (f x) (flat_map f xs) h.0 (Each-flat P 
 -- a slot above all of a list is none of it
 pub not-among : (slots : List ℕ) (low q : ℕ) → low ≤ q → Each (λ s. s < low) slots → is_slot_in slots q ≡ false
 not-among [] low q le h = refl
-not-among (s ∷ slots) low q le h = ap (λ (b : Bool). b || is_slot_in slots q) (ne_eqb q s (λ e. omega (arith, h.0, e))) ∙ not-among slots low q le h.1
+not-among (s ∷ slots) low q le h = ap (λ (b : Bool). b || is_slot_in slots q) (ne_eqb q s (λ e. omega (arith, h.0, e))) ∙
+    not-among slots low q le h.1
 
 -- slots below the second number, without all those from the first on, are below the first
-pub below-without : (slots : List ℕ) (low high : ℕ) → ((q : ℕ) → low ≤ q → q < high → is_slot_in slots q ≡ true) → (qs : List ℕ) → Each (λ q. q < high) qs → Each (λ q. q < low) (slots_without slots qs)
+pub below-without : (slots : List ℕ) (low high : ℕ) → ((q : ℕ) → low ≤ q → q < high → is_slot_in slots q ≡ true) → (qs : List ℕ) →
+    Each (λ q. q < high) qs → Each (λ q. q < low) (slots_without slots qs)
 below-without slots low high all [] h = tt
-below-without slots low high all (q ∷ qs) h = (elim (is_slot_in slots q) as (λ b. is_slot_in slots q ≡ b → Each (λ p. p < low) (cond (not b) (q ∷ slots_without slots qs) (slots_without slots qs))) [
-  | true ↦ λ e. below-without slots low high all qs h.1
-  | false ↦ λ e. (under e, below-without slots low high all qs h.1)
-]) refl
+below-without slots low high all (q ∷ qs) h = (elim (is_slot_in slots q) as
+    (λ b. is_slot_in slots q ≡ b → Each (λ p. p < low) (cond (not b) (q ∷ slots_without slots qs) (slots_without slots qs))) [
+      | true ↦ λ e. below-without slots low high all qs h.1
+      | false ↦ λ e. (under e, below-without slots low high all qs h.1)
+    ]) refl
   where
     under : is_slot_in slots q ≡ false → q < low
     under e = elim (cases_lt q low) [

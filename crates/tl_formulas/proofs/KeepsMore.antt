@@ -7,7 +7,9 @@ use Rattle.tl_syntax.specs.Effects.{EffectTree, EffectTrees, add, del, assign, w
 use Rattle.tl_syntax.specs.Fits.{BoundFits, VariablesFit, TermFits, TermsFit, Fits, AllFit, EffectFits, EffectsFit}
 use Rattle.tl_syntax.specs.FreeVariables.{slots_of}
 use Rattle.tl_syntax.specs.Signature.{Signature, Takes}
-use Rattle.tl_syntax.specs.Trees.{TermTree, variable, value, place, arith, TermTrees, no_term, more_terms, FormulaTree, verum, falsum, atom, defined, compare, goal_fact, goal_place, goal_not, negation, conjunction, disjunction, for_all, for_some, next, always, eventually, until, within, during, FormulaTrees, no_formula, more_formulas}
+use Rattle.tl_syntax.specs.Trees.{TermTree, variable, value, place, arith, TermTrees, no_term, more_terms, FormulaTree, verum, falsum, atom}
+use Rattle.tl_syntax.specs.Trees.{defined, compare, goal_fact, goal_place, goal_not, negation, conjunction, disjunction, for_all, for_some}
+use Rattle.tl_syntax.specs.Trees.{next, always, eventually, until, within, during, FormulaTrees, no_formula, more_formulas}
 
 -- what takes arguments by the first signature takes as many by the second
 pub record IsPartOf (g h : Signature) : Type 0 where
@@ -24,7 +26,14 @@ module _ (g h : Signature) (part : IsPartOf g h) where
   bound-fits (bound.GoalNot p xs) fits = (part.predicates p _ fits.0, fits.1)
 
   variables-fit : (around : List ℕ) (vs : List Var) (b : Bound) → VariablesFit g around vs b → VariablesFit h around vs b
-  variables-fit around vs b fits = record { frame = fits.frame; fresh = fits.fresh; differ = fits.differ; occur = fits.occur; bound = bound-fits b fits.bound }
+  variables-fit around vs b fits = record {
+    frame = fits.frame;
+    fresh = fits.fresh;
+    differ = fits.differ;
+    occur = fits.occur;
+    bound =
+        bound-fits b fits.bound;
+  }
 
   mutual
     unfolding TermFits

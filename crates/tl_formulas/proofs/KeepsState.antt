@@ -19,10 +19,12 @@ use Rattle.tl_formulas.specs.Words.{formula_word}
 use Rattle.tl_formulas.specs.Signatures.{Scope, place_of}
 use Rattle.tl_formulas.specs.Bounds.{bound_breaks}
 use Rattle.tl_formulas.specs.Variables.{variables_breaks, with_variables}
-use Rattle.tl_formulas.specs.Formulas.{has_formula_shape, is_temporal, may_be_temporal, role_below, name_breaks, formula_list_breaks, formula_breaks, formula_parts_breaks, formulas_breaks}
+use Rattle.tl_formulas.specs.Formulas.{has_formula_shape, is_temporal, may_be_temporal, role_below, name_breaks, formula_list_breaks}
+use Rattle.tl_formulas.specs.Formulas.{formula_breaks, formula_parts_breaks, formulas_breaks}
 use Rattle.tl_formulas.specs.MeaningOfBounds.{goal_meant}
 use Rattle.tl_formulas.specs.MeaningOfTerms.{terms_meant}
-use Rattle.tl_formulas.specs.MeaningOfFormulas.{formula_of_goal, atom_at, atom_meant, first_formula, second_formula, under_word, constant_meant, formula_meant, formula_list_meant, formulas_meant}
+use Rattle.tl_formulas.specs.MeaningOfFormulas.{formula_of_goal, atom_at, atom_meant, first_formula, second_formula, under_word}
+use Rattle.tl_formulas.specs.MeaningOfFormulas.{constant_meant, formula_meant, formula_list_meant, formulas_meant}
 use Rattle.tl_formulas.proofs.KeepsLists.{none-parts, test-fails}
 
 constant-state : (text : List ℕ) → IsState (constant_meant text)
@@ -66,7 +68,8 @@ joined-state word.Until fs plain h = cc
 joined-state _ fs plain h = tt
 
 -- a word that breaks nothing where none may be temporal is not
-pub own-plain : (r : FormulaRole) (g : NameSignature) (scope : Scope) (w : FormulaWord) (text : List ℕ) (rest : FormTrees) (at : ℕ) → may_be_temporal r ≡ false → formula_list_breaks r g scope w text rest at ≡ [] → is_temporal w ≡ false
+pub own-plain : (r : FormulaRole) (g : NameSignature) (scope : Scope) (w : FormulaWord) (text : List ℕ) (rest : FormTrees) (at : ℕ) →
+    may_be_temporal r ≡ false → formula_list_breaks r g scope w text rest at ≡ [] → is_temporal w ≡ false
 own-plain r g scope w text rest at never none =
     let parts = none-parts (breaks_if (not (has_formula_shape w rest)) Shape at) _ none in
     let later = none-parts (name_breaks g w text rest at) _ parts.1 in
@@ -86,19 +89,26 @@ below-plain role.Body h = refl
 mutual
   unfolding formula_breaks formula_meant
 
-  pub formula-state : (names : List (List ℕ)) (r : FormulaRole) (g : NameSignature) (scope : Scope) (f : FormTree) → may_be_temporal r ≡ false → formula_breaks r g scope f ≡ [] → IsState (formula_meant names g scope f)
+  pub formula-state : (names : List (List ℕ)) (r : FormulaRole) (g : NameSignature) (scope : Scope) (f : FormTree) → may_be_temporal r ≡
+      false → formula_breaks r g scope f ≡ [] → IsState (formula_meant names g scope f)
   formula-state names r g scope (symbol text at) never none = constant-state text
   formula-state names r g scope (integer z at) never none = tt
   formula-state names r g scope (list no_form at) never none = tt
   formula-state names r g scope (list (more_forms (symbol text s) rest) at) never none =
-      let parts = none-parts (formula_list_breaks r g scope (formula_word text) text rest at) (formula_parts_breaks (role_below r) g scope (formula_word text) rest) none in
-      formula_list-state names (role_below r) g scope (formula_word text) text rest (below-plain r never) (own-plain r g scope (formula_word text) text rest at never parts.0) parts.1
+      let parts = none-parts (formula_list_breaks r g scope (formula_word text) text rest at)
+      (formula_parts_breaks (role_below r) g scope (formula_word text) rest) none in
+      formula_list-state names (role_below r) g scope (formula_word text) text rest (below-plain r never)
+      (own-plain r g scope (formula_word text) text rest at never parts.0) parts.1
   formula-state names r g scope (list (more_forms (integer z s) rest) at) never none = tt
   formula-state names r g scope (list (more_forms (list fs s) rest) at) never none = tt
 
-  formula_list-state : (names : List (List ℕ)) (r : FormulaRole) (g : NameSignature) (scope : Scope) (w : FormulaWord) (text : List ℕ) (fs : FormTrees) → may_be_temporal r ≡ false → is_temporal w ≡ false → formula_parts_breaks r g scope w fs ≡ [] → IsState (formula_list_meant names g scope w text fs)
-  formula_list-state names r g scope word.Name text no_form never plain none = atom-state g text (terms_meant names g.functions scope no_form)
-  formula_list-state names r g scope word.Name text (more_forms f fs) never plain none = atom-state g text (terms_meant names g.functions scope (more_forms f fs))
+  formula_list-state : (names : List (List ℕ)) (r : FormulaRole) (g : NameSignature) (scope : Scope) (w : FormulaWord) (text : List ℕ)
+      (fs : FormTrees) → may_be_temporal r ≡ false → is_temporal w ≡ false → formula_parts_breaks r g scope w fs ≡ [] →
+      IsState (formula_list_meant names g scope w text fs)
+  formula_list-state names r g scope word.Name text no_form never plain none =
+      atom-state g text (terms_meant names g.functions scope no_form)
+  formula_list-state names r g scope word.Name text (more_forms f fs) never plain none =
+      atom-state g text (terms_meant names g.functions scope (more_forms f fs))
   formula_list-state names r g scope word.Goal text no_form never plain none = tt
   formula_list-state names r g scope word.Goal text (more_forms f fs) never plain none = goal-state (goal_meant names g scope f)
   formula_list-state names r g scope (word.Compare c) text no_form never plain none = tt
@@ -106,23 +116,29 @@ mutual
   formula_list-state names r g scope word.ForAll text no_form never plain none = tt
   formula_list-state names r g scope word.ForAll text (more_forms vs no_form) never plain none = tt
   formula_list-state names r g scope word.ForAll text (more_forms vs (more_forms b fs)) never plain none =
-      let parts = none-parts (variables_breaks [] scope b (elements_of vs)) (bound_breaks g (with_variables scope vs) b ++ formulas_breaks r g (with_variables scope vs) fs) none in
+      let parts = none-parts (variables_breaks [] scope b (elements_of vs))
+      (bound_breaks g (with_variables scope vs) b ++ formulas_breaks r g (with_variables scope vs) fs) none in
       let later = none-parts (bound_breaks g (with_variables scope vs) b) (formulas_breaks r g (with_variables scope vs) fs) parts.1 in
-      first-state (formulas_meant names g (with_variables scope vs) fs) (formulas-state names r g (with_variables scope vs) fs never later.1)
+      first-state (formulas_meant names g (with_variables scope vs) fs)
+      (formulas-state names r g (with_variables scope vs) fs never later.1)
   formula_list-state names r g scope word.Exists text no_form never plain none = tt
   formula_list-state names r g scope word.Exists text (more_forms vs no_form) never plain none = tt
   formula_list-state names r g scope word.Exists text (more_forms vs (more_forms b fs)) never plain none =
-      let parts = none-parts (variables_breaks [] scope b (elements_of vs)) (bound_breaks g (with_variables scope vs) b ++ formulas_breaks r g (with_variables scope vs) fs) none in
+      let parts = none-parts (variables_breaks [] scope b (elements_of vs))
+      (bound_breaks g (with_variables scope vs) b ++ formulas_breaks r g (with_variables scope vs) fs) none in
       let later = none-parts (bound_breaks g (with_variables scope vs) b) (formulas_breaks r g (with_variables scope vs) fs) parts.1 in
-      first-state (formulas_meant names g (with_variables scope vs) fs) (formulas-state names r g (with_variables scope vs) fs never later.1)
+      first-state (formulas_meant names g (with_variables scope vs) fs)
+      (formulas-state names r g (with_variables scope vs) fs never later.1)
   formula_list-state names r g scope word.Within text fs never plain none = cc
   formula_list-state names r g scope word.During text fs never plain none = cc
   formula_list-state names r g scope w text no_form never plain none = joined-state w no_formula plain tt
   formula_list-state names r g scope w text (more_forms f fs) never plain none =
       let parts = none-parts (formula_breaks r g scope f) (formulas_breaks r g scope fs) none in
-      joined-state w (more_formulas (formula_meant names g scope f) (formulas_meant names g scope fs)) plain (formula-state names r g scope f never parts.0, formulas-state names r g scope fs never parts.1)
+      joined-state w (more_formulas (formula_meant names g scope f) (formulas_meant names g scope fs)) plain
+      (formula-state names r g scope f never parts.0, formulas-state names r g scope fs never parts.1)
 
-  pub formulas-state : (names : List (List ℕ)) (r : FormulaRole) (g : NameSignature) (scope : Scope) (fs : FormTrees) → may_be_temporal r ≡ false → formulas_breaks r g scope fs ≡ [] → AreState (formulas_meant names g scope fs)
+  pub formulas-state : (names : List (List ℕ)) (r : FormulaRole) (g : NameSignature) (scope : Scope) (fs : FormTrees) → may_be_temporal r ≡
+      false → formulas_breaks r g scope fs ≡ [] → AreState (formulas_meant names g scope fs)
   formulas-state names r g scope no_form never none = tt
   formulas-state names r g scope (more_forms f fs) never none =
       let parts = none-parts (formula_breaks r g scope f) (formulas_breaks r g scope fs) none in

@@ -19,7 +19,8 @@ use Rattle.tl_formulas.specs.declared.signature.NameSignature.{NameSignature}
 use Rattle.tl_formulas.specs.Words.{operation_named}
 use Rattle.tl_formulas.specs.Signatures.{Table, Scope, place_of}
 use Rattle.tl_formulas.specs.Terms.{term_call_breaks, term_breaks, term_list_breaks, terms_breaks}
-use Rattle.tl_formulas.specs.MeaningOfTerms.{term_of_argument, first_term, second_term, call_meant, term_meant, term_list_meant, terms_meant}
+use Rattle.tl_formulas.specs.MeaningOfTerms.{term_of_argument, first_term, second_term, call_meant, term_meant, term_list_meant}
+use Rattle.tl_formulas.specs.MeaningOfTerms.{terms_meant}
 use Rattle.tl_formulas.proofs.KeepsLists.{none-parts, Each-both, Each-parts}
 use Rattle.tl_formulas.proofs.KeepsCalls.{seen, called-takes, ArgKeeps, symbol-keeps, arities}
 
@@ -57,19 +58,26 @@ second-keeps g n k no_term h = number-keeps g n k (pos 0)
 second-keeps g n k (more_terms t ts) h = first-keeps g n k ts (later-keep g n k t ts h)
 
 -- the term of a list that breaks nothing itself and whose terms keep all this
-call-keeps : (g : NameSignature) (n k : ℕ) (op : Option Op) (text : List ℕ) (rest : FormTrees) (at : ℕ) (ts : TermTrees) → term_call_breaks g.functions op text rest at ≡ [] → term_count ts ≡ count rest → TermsKeep (seen g) n k ts → TermKeeps (seen g) n k (call_meant op (place_of g.functions text) ts at)
+call-keeps : (g : NameSignature) (n k : ℕ) (op : Option Op) (text : List ℕ) (rest : FormTrees) (at : ℕ) (ts : TermTrees) →
+    term_call_breaks g.functions op text rest at ≡ [] → term_count ts ≡ count rest → TermsKeep (seen g) n k ts →
+    TermKeeps (seen g) n k (call_meant op (place_of g.functions text) ts at)
 unfolding TermFits term_slots TermIsNamed
 call-keeps g n k (Some op) text rest at ts none many h =
     let first = first-keeps (seen g) n k ts h in
     let second = second-keeps (seen g) n k ts h in
     record { fits = (first.fits, second.fits); below = Each-both _ _ _ first.below second.below; named = (first.named, second.named) }
 call-keeps g n k None text rest at ts none many h = record {
-  fits = (subst (λ (m : ℕ). Takes (arities g.functions) (unwrap_or (place_of g.functions text) 0) m) (sym many) (called-takes g.functions text (count rest) at none), h.fits);
+  fits = (
+    subst (λ (m : ℕ). Takes (arities g.functions) (unwrap_or (place_of g.functions text) 0) m) (sym many)
+        (called-takes g.functions text (count rest) at none),
+    h.fits,
+  );
   below = h.below;
   named = h.named;
 }
 
-pub terms-count : (names : List (List ℕ)) (functions : Table) (scope : Scope) (fs : FormTrees) → term_count (terms_meant names functions scope fs) ≡ count fs
+pub terms-count : (names : List (List ℕ)) (functions : Table) (scope : Scope) (fs : FormTrees) →
+    term_count (terms_meant names functions scope fs) ≡ count fs
 unfolding term_count terms_meant
 terms-count names functions scope no_form = refl
 terms-count names functions scope (more_forms f fs) = omega (linear, terms-count names functions scope fs)
@@ -77,20 +85,26 @@ terms-count names functions scope (more_forms f fs) = omega (linear, terms-count
 mutual
   unfolding term_breaks term_meant TermFits term_slots TermIsNamed
 
-  pub term-keeps : (names : List (List ℕ)) (g : NameSignature) (scope : Scope) (f : FormTree) → length scope ≤ 32 → HasNames names f → term_breaks g.functions scope f ≡ [] → TermKeeps (seen g) (length names) (length scope) (term_meant names g.functions scope f)
+  pub term-keeps : (names : List (List ℕ)) (g : NameSignature) (scope : Scope) (f : FormTree) → length scope ≤ 32 → HasNames names f →
+      term_breaks g.functions scope f ≡ [] → TermKeeps (seen g) (length names) (length scope) (term_meant names g.functions scope f)
   term-keeps names g scope (symbol text at) few has none = argument-term (seen g) _ _ _ (symbol-keeps names scope text at few has none)
   term-keeps names g scope (integer z at) few has none = number-keeps (seen g) _ _ z
   term-keeps names g scope (list fs at) few has none = term_list-keeps names g scope fs at few has none
 
-  term_list-keeps : (names : List (List ℕ)) (g : NameSignature) (scope : Scope) (fs : FormTrees) (at : ℕ) → length scope ≤ 32 → HaveNames names fs → term_list_breaks g.functions scope fs at ≡ [] → TermKeeps (seen g) (length names) (length scope) (term_list_meant names g.functions scope fs at)
+  term_list-keeps : (names : List (List ℕ)) (g : NameSignature) (scope : Scope) (fs : FormTrees) (at : ℕ) → length scope ≤ 32 →
+      HaveNames names fs → term_list_breaks g.functions scope fs at ≡ [] →
+      TermKeeps (seen g) (length names) (length scope) (term_list_meant names g.functions scope fs at)
   term_list-keeps names g scope no_form at few has none = cc
   term_list-keeps names g scope (more_forms (symbol text s) rest) at few has none =
-      let parts = none-parts (term_call_breaks g.functions (operation_named text) text rest at) (terms_breaks g.functions scope rest) none in
-      call-keeps g _ _ (operation_named text) text rest at (terms_meant names g.functions scope rest) parts.0 (terms-count names g.functions scope rest) (terms-keep names g scope rest few has.1 parts.1)
+      let parts = none-parts (term_call_breaks g.functions (operation_named text) text rest at)
+      (terms_breaks g.functions scope rest) none in
+      call-keeps g _ _ (operation_named text) text rest at (terms_meant names g.functions scope rest) parts.0
+      (terms-count names g.functions scope rest) (terms-keep names g scope rest few has.1 parts.1)
   term_list-keeps names g scope (more_forms (integer z s) rest) at few has none = cc
   term_list-keeps names g scope (more_forms (list fs s) rest) at few has none = cc
 
-  pub terms-keep : (names : List (List ℕ)) (g : NameSignature) (scope : Scope) (fs : FormTrees) → length scope ≤ 32 → HaveNames names fs → terms_breaks g.functions scope fs ≡ [] → TermsKeep (seen g) (length names) (length scope) (terms_meant names g.functions scope fs)
+  pub terms-keep : (names : List (List ℕ)) (g : NameSignature) (scope : Scope) (fs : FormTrees) → length scope ≤ 32 → HaveNames names fs →
+      terms_breaks g.functions scope fs ≡ [] → TermsKeep (seen g) (length names) (length scope) (terms_meant names g.functions scope fs)
   terms-keep names g scope no_form few has none = record { fits = tt; below = tt; named = tt }
   terms-keep names g scope (more_forms f fs) few has none =
       let parts = none-parts (term_breaks g.functions scope f) (terms_breaks g.functions scope fs) none in

@@ -7,7 +7,8 @@ use Rattle.tl_formulas.specs.Signatures.{Scope}
 use Rattle.tl_formulas.specs.Goals.{other_goal_breaks}
 use Rattle.tl_rules.specs.Reads.{trees_in}
 
-pub other_length : (g : NameSignature) (scope : Scope) (xs : List Form) (at : ℕ) → length xs ≢ 2 → length xs ≢ 3 → other_goal_breaks g scope (trees_in xs) at ≡ (GoalArg, at) ∷ []
+pub other_length : (g : NameSignature) (scope : Scope) (xs : List Form) (at : ℕ) → length xs ≢ 2 → length xs ≢ 3 →
+    other_goal_breaks g scope (trees_in xs) at ≡ (GoalArg, at) ∷ []
 other_length g scope [] at no_two no_three = refl
 other_length g scope (x ∷ []) at no_two no_three = refl
 other_length g scope (x ∷ y ∷ []) at no_two no_three = absurd (no_two refl)

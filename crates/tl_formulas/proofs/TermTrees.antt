@@ -11,7 +11,8 @@ abbrev pub after_terms : List TermTree → TermTrees → TermTrees
 after_terms [] us = us
 after_terms (t ∷ ts) us = more_terms t (after_terms ts us)
 
-pub after_terms-push : (ts : List TermTree) (t : TermTree) (us : TermTrees) → after_terms (ts ++ t ∷ []) us ≡ after_terms ts (more_terms t us)
+pub after_terms-push : (ts : List TermTree) (t : TermTree) (us : TermTrees) → after_terms (ts ++ t ∷ []) us ≡
+    after_terms ts (more_terms t us)
 after_terms-push [] t us = refl
 after_terms-push (s ∷ ts) t us = ap (more_terms s) (after_terms-push ts t us)
 
@@ -24,10 +25,12 @@ pub ruleset term_trees = (tree-Var, tree-Val, tree-Place, tree-Arith, trees-Term
 pub ruleset term_steps = (trees-Terms, after_terms-push, after_terms-end)
 
 -- a term more
-pub terms-more : (ts us : List Term) (t : Term) (rest : TermTrees) → us ≡ ts ++ t ∷ [] → after_terms (map tree_of_term us) rest ≡ after_terms (map tree_of_term ts) (more_terms (tree_of_term t) rest)
+pub terms-more : (ts us : List Term) (t : Term) (rest : TermTrees) → us ≡ ts ++ t ∷ [] → after_terms (map tree_of_term us) rest ≡
+    after_terms (map tree_of_term ts) (more_terms (tree_of_term t) rest)
 terms-more ts us t rest e = ap (λ xs. after_terms (map tree_of_term xs) rest) e ∙ pushed ts
   where
-    pushed : (xs : List Term) → after_terms (map tree_of_term (xs ++ t ∷ [])) rest ≡ after_terms (map tree_of_term xs) (more_terms (tree_of_term t) rest)
+    pushed : (xs : List Term) → after_terms (map tree_of_term (xs ++ t ∷ [])) rest ≡
+        after_terms (map tree_of_term xs) (more_terms (tree_of_term t) rest)
     pushed [] = refl
     pushed (x ∷ xs) = ap (more_terms (tree_of_term x)) (pushed xs)
 

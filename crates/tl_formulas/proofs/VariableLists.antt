@@ -7,13 +7,16 @@ use Rattle.tl_rules.specs.Parts.{symbol_text, texts_of, offset_of, count, are_va
 use Rattle.tl_formulas.specs.Variables.{variable_breaks, variables_breaks}
 
 -- the breaks of a variable and of those after it
-pub variables-next : (earlier scope : Scope) (bound f : FormTree) (fs : FormTrees) (text : List ℕ) → symbol_text f ≡ Some text → variables_breaks earlier scope bound (more_forms f fs) ≡ variable_breaks earlier scope bound text (offset_of f) ++ variables_breaks (earlier ++ text ∷ []) scope bound fs
+pub variables-next : (earlier scope : Scope) (bound f : FormTree) (fs : FormTrees) (text : List ℕ) → symbol_text f ≡ Some text →
+    variables_breaks earlier scope bound (more_forms f fs) ≡ variable_breaks earlier scope bound text (offset_of f) ++
+    variables_breaks (earlier ++ text ∷ []) scope bound fs
 variables-next earlier scope bound (symbol t at) fs text is = cc
 variables-next earlier scope bound (integer z at) fs text is = cc
 variables-next earlier scope bound (list gs at) fs text is = cc
 
 -- the texts of a variable and of those after it
-pub texts-next : (f : FormTree) (fs : FormTrees) (text : List ℕ) → symbol_text f ≡ Some text → texts_of (more_forms f fs) ≡ text ∷ texts_of fs
+pub texts-next : (f : FormTree) (fs : FormTrees) (text : List ℕ) → symbol_text f ≡ Some text → texts_of (more_forms f fs) ≡ text ∷
+    texts_of fs
 texts-next (symbol t at) fs text is = cc
 texts-next (integer z at) fs text is = cc
 texts-next (list gs at) fs text is = cc

@@ -51,7 +51,8 @@ is_crowded_by_effect scope _ _ = false
 
 -- what the list of an effect breaks itself
 abbrev pub effect_list_breaks : Scope → EffectWord → FormTrees → ℕ → List Break
-effect_list_breaks scope w rest at = breaks_if (not (has_effect_shape w rest)) Shape at ++ breaks_if (is_crowded_by_effect scope w rest) Limit at
+effect_list_breaks scope w rest at = breaks_if (not (has_effect_shape w rest)) Shape at ++
+    breaks_if (is_crowded_by_effect scope w rest) Limit at
 
 -- what `(n T*)` breaks, with its terms, where it should name something of the table
 abbrev pub target_breaks : Table → Table → Scope → FormTree → List Break

@@ -49,7 +49,8 @@ use Rattle.tl_formulas.specs.Terms.{term_call_breaks, term_breaks, terms_breaks}
 use Rattle.tl_formulas.specs.Goals.{arguments_breaks, is_flat, miscounted_breaks, other_goal_breaks, goal_breaks}
 use Rattle.tl_formulas.specs.Bounds.{flat_breaks, equality_breaks, bound_call_breaks, bound_breaks, bounds_breaks}
 use Rattle.tl_formulas.specs.Variables.{with_variables}
-use Rattle.tl_formulas.specs.Formulas.{binding_breaks, role_below, goals_breaks, formula_list_breaks, formula_breaks, formula_parts_breaks, formulas_breaks}
+use Rattle.tl_formulas.specs.Formulas.{binding_breaks, role_below, goals_breaks, formula_list_breaks, formula_breaks, formula_parts_breaks}
+use Rattle.tl_formulas.specs.Formulas.{formulas_breaks}
 use Rattle.tl_formulas.specs.Effects.{target_breaks, effect_list_breaks, effect_breaks, effect_parts_breaks, effects_breaks}
 use Rattle.tl_formulas.specs.MeaningOfTerms.{argument_meant, arguments_meant, call_meant, term_meant, terms_meant}
 use Rattle.tl_formulas.specs.MeaningOfBounds.{call_place, other_goal_meant, goal_meant, equality_meant}

@@ -13,22 +13,27 @@ use Rattle.tl_known.proofs.Unchanged.{number-after}
 
 module _ (ws : List World) (from : ℕ) (dels adds : List Fact) (sets : List PlaceValue) where
   -- the world after the changes has one number at most
-  pub one-after : (r n : ℕ) → from < length ws → IsOnce ws → IsNumberAfter ws from dels adds sets r → IsNumberAfter ws from dels adds sets n → r ≡ n
+  pub one-after : (r n : ℕ) → from < length ws → IsOnce ws → IsNumberAfter ws from dels adds sets r →
+      IsNumberAfter ws from dels adds sets n → r ≡ n
   one-after r n below once p q = by (slice_get_cases ws from).1
     where
-      by : ((x : World) × (from < length ws) × (slice_get ws from ≡ Some x) × (get_or ws from x ≡ x)) ⊎ ((length ws ≤ from) × (slice_get ws from ≡ None)) → r ≡ n
+      by : ((x : World) × (from < length ws) × (slice_get ws from ≡ Some x) × (get_or ws from x ≡ x)) ⊎
+          ((length ws ≤ from) × (slice_get ws from ≡ None)) → r ≡ n
       by (inl w) = once r n (changed_world w.0 dels adds sets) (p w.0 w.2) (q w.0 w.2)
       by (inr past) = let over = past.0 in absurd (omega (arith, over, below))
 
-  module _ (vs : List World) (before next : World) (at : slice_get ws from ≡ Some before) (facts : next.facts ≡ changed_facts before.facts dels adds) (places : next.places ≡ changed_places before.places sets) where
+  module _ (vs : List World) (before next : World) (at : slice_get ws from ≡ Some before)
+      (facts : next.facts ≡ changed_facts before.facts dels adds) (places : next.places ≡ changed_places before.places sets) where
     next-is : next ≡ changed_world before dels adds sets
     next-is = λ i. record { facts = facts i; places = places i }
 
-    pub number-made : (r : Result ℕ NoMemory) → Stay ws vs → IfOk r (λ n. slice_get vs n ≡ Some next) → IfOk r (IsNumberAfter vs from dels adds sets)
+    pub number-made : (r : Result ℕ NoMemory) → Stay ws vs → IfOk r (λ n. slice_get vs n ≡ Some next) →
+        IfOk r (IsNumberAfter vs from dels adds sets)
     number-made (Err e) stay h = h
     number-made (Ok n) stay h = number-after vs from n before next dels adds sets (stay from before at) h facts places
 
-    pub known-made : (r : Result ℕ NoMemory) → ((n : ℕ) → slice_get ws n ≡ Some next → r ≡ Ok n) → IfOk r (λ m. (n : ℕ) → IsNumberAfter ws from dels adds sets n → m ≡ n)
+    pub known-made : (r : Result ℕ NoMemory) → ((n : ℕ) → slice_get ws n ≡ Some next → r ≡ Ok n) →
+        IfOk r (λ m. (n : ℕ) → IsNumberAfter ws from dels adds sets n → m ≡ n)
     known-made (Err e) h = tt
     known-made (Ok m) h = λ n p. let both : Ok m ≡ Ok n = h n (p before at ∙ ap (λ v. Some v) (sym next-is)) in cc
 

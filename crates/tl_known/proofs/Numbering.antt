@@ -1,5 +1,6 @@
 -- What a set's answers say of its keys, where the test of equality tells which are the same.
-use Rattle.std.proofs.Common.{◌≡◌, ◌||◌, ℕ, zero, suc, Bool, true, false, List, [], ◌∷◌, ◌++◌, slice_get, Some, inl, inr, refl, sym, ap, ◌∙◌, true≢false, if◌then◌else◌}
+use Rattle.std.proofs.Common.{◌≡◌, ◌||◌, ℕ, zero, suc, Bool, true, false, List, [], ◌∷◌, ◌++◌, slice_get, Some, inl, inr, refl, sym, ap}
+use Rattle.std.proofs.Common.{◌∙◌, true≢false, if◌then◌else◌}
 use Rattle.std.specs.List.{list_any, IsDistinct, AllByRecursion}
 use Rattle.indexmap.specs.IndexSet.{insert_key}
 use Rattle.tl_syntax.proofs.Plain.{Tells}
@@ -32,7 +33,8 @@ module _ {K : Type 0} (eq : K → K → Bool) (tells : Tells eq) where
   -- a key that no test finds is not there
   pub absent : (x : K) (ks : List K) → list_any (eq x) ks ≡ false → (i : ℕ) → slice_get ks i ≡ Some x → ⊥
   absent x [] h i e = cc
-  absent x (k ∷ ks) h zero e = let d : k ≡ x = cc in let q : eq x k ≡ true = (tells x k).1 (sym d) in true≢false (or-left (eq x k) (list_any (eq x) ks) q h)
+  absent x (k ∷ ks) h zero e = let d : k ≡ x = cc in let q : eq x k ≡ true = (tells x k).1 (sym d) in
+      true≢false (or-left (eq x k) (list_any (eq x) ks) q h)
     where
       or-left : (a b : Bool) → a ≡ true → (a || b) ≡ false → true ≡ false
       or-left true b q f = f

@@ -1,5 +1,6 @@
 -- Numbers of the tables of worlds: where two tables of one name have one number, they say the same.
-use Rattle.std.specs.Prelude.{◌≡◌, ◌+◌, ◌<◌, ◌≤◌, ◌||◌, ◌⊎◌, ◌++◌, ℕ, suc, Bool, false, List, [], ◌∷◌, map, length, take, drop, slice_get, nat_eq, Option, Some, None}
+use Rattle.std.specs.Prelude.{◌≡◌, ◌+◌, ◌<◌, ◌≤◌, ◌||◌, ◌⊎◌, ◌++◌, ℕ, suc, Bool, false, List, [], ◌∷◌, map, length, take, drop, slice_get}
+use Rattle.std.specs.Prelude.{nat_eq, Option, Some, None}
 use Rattle.std.specs.List.{list_any}
 use Rattle.tl_syntax.specs.declared.fact.Fact.{Fact}
 use Rattle.tl_syntax.specs.declared.place_value.PlaceValue.{PlaceValue}
@@ -34,7 +35,8 @@ IsTableNumber ws t w k = (k < length ws) × ((v : World) → slice_get ws k ≡ 
 
 -- numbers of the tables of a world, from the first one on
 abbrev pub AreTableNumbers : List World → World → List ℕ → Type 0
-AreTableNumbers ws w ks = (i : ℕ) (t : TableName) (k : ℕ) → slice_get (tables_in w) i ≡ Some t → slice_get ks i ≡ Some k → IsTableNumber ws t w k
+AreTableNumbers ws w ks = (i : ℕ) (t : TableName) (k : ℕ) → slice_get (tables_in w) i ≡ Some t → slice_get ks i ≡ Some k →
+    IsTableNumber ws t w k
 
 -- they stand in one list, from a place on
 abbrev pub StandFrom : List World → List ℕ → ℕ → World → Type 0
@@ -47,7 +49,8 @@ LaterStandFrom starts n end = (m t : ℕ) → n < m → slice_get starts m ≡ S
 -- those of the first worlds do, each from its own place on, one world's after another's, and none
 -- is that of a later world
 abbrev pub AreNumbered : List World → List ℕ → List ℕ → Type 0
-AreNumbered ws starts all = (length starts ≤ length ws) × ((n s : ℕ) (w : World) → slice_get ws n ≡ Some w → slice_get starts n ≡ Some s → StandFrom (take (suc n) ws) all s w × LaterStandFrom starts n (s + length (tables_in w)))
+AreNumbered ws starts all = (length starts ≤ length ws) × ((n s : ℕ) (w : World) → slice_get ws n ≡ Some w → slice_get starts n ≡ Some s →
+    StandFrom (take (suc n) ws) all s w × LaterStandFrom starts n (s + length (tables_in w)))
 
 -- what stands from the place on, where there is one
 abbrev pub standing : List ℕ → Option ℕ → List ℕ
@@ -60,7 +63,8 @@ numbers_at starts all n = standing all (slice_get starts n)
 
 -- where tables of one name in two worlds have one number, the worlds are alike in them
 abbrev pub TellAlike : World → List ℕ → World → List ℕ → Type 0
-TellAlike w ks v ls = (i j : ℕ) (t : TableName) (k : ℕ) → slice_get (tables_in w) i ≡ Some t → slice_get (tables_in v) j ≡ Some t → slice_get ks i ≡ Some k → slice_get ls j ≡ Some k → AreAlikeOf t w v
+TellAlike w ks v ls = (i j : ℕ) (t : TableName) (k : ℕ) → slice_get (tables_in w) i ≡ Some t → slice_get (tables_in v) j ≡ Some t →
+    slice_get ks i ≡ Some k → slice_get ls j ≡ Some k → AreAlikeOf t w v
 
 -- there is one for each table of the world of the number
 abbrev pub AreOneEach : List World → ℕ → List ℕ → Type 0
@@ -85,11 +89,13 @@ changes_table dels adds sets (Fun f) = sets_fun sets f
 
 -- but for the tables that changes name, the world is alike to the world of the number `from`
 abbrev pub ComesFrom : List World → ℕ → List Fact → List Fact → List PlaceValue → World → Type 0
-ComesFrom ws from dels adds sets w = (v : World) (t : TableName) → slice_get ws from ≡ Some v → changes_table dels adds sets t ≡ false → AreAlikeOf t v w
+ComesFrom ws from dels adds sets w = (v : World) (t : TableName) → slice_get ws from ≡ Some v → changes_table dels adds sets t ≡ false →
+    AreAlikeOf t v w
 
 -- the numbers stand for the tables of the world of the number, where that comes from the source
 abbrev pub StandFor : List World → Source → ℕ → List ℕ → Type 0
-StandFor ws s n ks = (w : World) → slice_get ws n ≡ Some w → ComesFrom ws s.from s.dels.now s.adds.now s.sets.now w → AreTableNumbers ws w ks
+StandFor ws s n ks = (w : World) → slice_get ws n ≡ Some w → ComesFrom ws s.from s.dels.now s.adds.now s.sets.now w →
+    AreTableNumbers ws w ks
 
 -- the numbers that come next stand after the others
 abbrev pub GainsStart : TableNumbers → TableNumbers → Type 0

@@ -43,7 +43,9 @@ AreTablesBeside dels adds ts us = AreAlikeBeside (dels ++ adds) (table_keys ts) 
 
 -- where tables have one number and one predicate, they have the same facts
 abbrev pub TellRows : List (Named (List (List Value))) → List ℕ → List (Named (List (List Value))) → List ℕ → Type 0
-TellRows ts ks us ls = (i j k : ℕ) (t u : Named (List (List Value))) → i < length ts → j < length us → t ≡ slice_index_or ts i t → u ≡ slice_index_or us j u → t.name ≡ u.name → slice_get ks i ≡ Some k → slice_get ls j ≡ Some k → AreRowsBeside [] [] t.name t.rows.value u.rows.value
+TellRows ts ks us ls = (i j k : ℕ) (t u : Named (List (List Value))) → i < length ts → j < length us → t ≡ slice_index_or ts i t → u ≡
+    slice_index_or us j u → t.name ≡ u.name → slice_get ks i ≡ Some k → slice_get ls j ≡ Some k →
+    AreRowsBeside [] [] t.name t.rows.value u.rows.value
 
 -- and so for tables with their numbers
 abbrev pub TellRowsOf : NumberedTables → NumberedTables → Type 0

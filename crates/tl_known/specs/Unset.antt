@@ -34,7 +34,9 @@ ArePlaceTablesBeside sets ts us = AreValuesBeside sets (entries_of (place_tables
 
 -- where tables have one number and one function, their places have the same values
 abbrev pub TellPlaces : List (Named (List PlaceRow)) → List ℕ → List (Named (List PlaceRow)) → List ℕ → Type 0
-TellPlaces ts ks us ls = (i j k : ℕ) (t u : Named (List PlaceRow)) → i < length ts → j < length us → t ≡ slice_index_or ts i t → u ≡ slice_index_or us j u → t.name ≡ u.name → slice_get ks i ≡ Some k → slice_get ls j ≡ Some k → ArePlacesBeside [] t.name t.rows.value u.rows.value
+TellPlaces ts ks us ls = (i j k : ℕ) (t u : Named (List PlaceRow)) → i < length ts → j < length us → t ≡ slice_index_or ts i t → u ≡
+    slice_index_or us j u → t.name ≡ u.name → slice_get ks i ≡ Some k → slice_get ls j ≡ Some k →
+    ArePlacesBeside [] t.name t.rows.value u.rows.value
 
 -- places have the same values in both maps, but for those that are set
 abbrev pub AreSameUnset : List PlaceValue → dict.FinMap key_cmp Value → dict.FinMap key_cmp Value → Type 0

@@ -1,5 +1,6 @@
 -- The text of a node's formula: its head, and behind it the rest.
-use Rattle.std.proofs.Common.{◌≡◌, ◌<◌, ℕ, zero, suc, List, [], ◌∷◌, ◌++◌, true, cond, map, slice_get, Some, nat_lt, refl, sym, ap, ◌∙◌, codes, append_assoc, true≢false}
+use Rattle.std.proofs.Common.{◌≡◌, ◌<◌, ℕ, zero, suc, List, [], ◌∷◌, ◌++◌, true, cond, map, slice_get, Some, nat_lt, refl, sym, ap, ◌∙◌}
+use Rattle.std.proofs.Common.{codes, append_assoc, true≢false}
 use Rattle.std.specs.Fmt.{decimal}
 use Rattle.std.proofs.lemmas.Grind.{flat_map-append}
 use Rattle.std.proofs.lemmas.List.{append-nil}
@@ -8,7 +9,9 @@ use Rattle.tl_syntax.specs.declared.domain.Domain.{Domain}
 use Rattle.tl_syntax.specs.declared.problem.Problem.{Problem}
 use Rattle.tl_syntax.specs.Basic.{is_basic}
 use Rattle.tl_syntax.specs.TreeOfFormula.{tree_of_formula}
-use Rattle.tl_syntax.specs.Trees.{FormulaTree, FormulaTrees, verum, falsum, atom, defined, compare, goal_fact, goal_place, goal_not, negation, conjunction, disjunction, for_all, for_some, next, always, eventually, until, within, during, no_formula, more_formulas, formulas_of_list}
+use Rattle.tl_syntax.specs.Trees.{FormulaTree, FormulaTrees, verum, falsum, atom, defined, compare, goal_fact, goal_place, goal_not}
+use Rattle.tl_syntax.specs.Trees.{negation, conjunction, disjunction, for_all, for_some, next, always, eventually, until, within, during}
+use Rattle.tl_syntax.specs.Trees.{no_formula, more_formulas, formulas_of_list}
 use Rattle.tl_syntax.proofs.Plain.{both}
 use Rattle.tl_nodes.specs.declared.node.Node.{Node}
 use Rattle.tl_nodes.specs.declared.node.Node.TheVariants as node
@@ -87,7 +90,8 @@ has-basic m (node.Exists xs b i) h = tt
 
 below-at : (m : ℕ) (ids : List ℕ) (k q : ℕ) → all_below m ids ≡ true → slice_get ids k ≡ Some q → q < m
 below-at m [] k q h e = let no_part : ⊥ = cc in absurd no_part
-below-at m (i ∷ ids) zero q h e = let same : i ≡ q = cc in ltb-true q m (ap (λ j. nat_lt j m) (sym same) ∙ (both (nat_lt i m) (all_below m ids) h).0)
+below-at m (i ∷ ids) zero q h e = let same : i ≡ q = cc in ltb-true q m
+    (ap (λ j. nat_lt j m) (sym same) ∙ (both (nat_lt i m) (all_below m ids) h).0)
 below-at m (i ∷ ids) (suc k) q h e = below-at m ids k q (both (nat_lt i m) (all_below m ids) h).1 e
 
 one-below : (m i k q : ℕ) → nat_lt i m ≡ true → slice_get (i ∷ []) k ≡ Some q → q < m
@@ -123,21 +127,25 @@ spaces-append : (xs ys : List (List ℕ)) → after_spaces (xs ++ ys) ≡ after_
 unfolding after_spaces
 spaces-append xs ys = flat_map-append (λ x. codes " " ++ x) xs ys
 
-in-two : (word : List ℕ) (xs ys : List (List ℕ)) → word ++ (after_spaces (xs ++ ys) ++ codes ")") ≡ (word ++ after_spaces xs) ++ (after_spaces ys ++ codes ")")
+in-two : (word : List ℕ) (xs ys : List (List ℕ)) → word ++ (after_spaces (xs ++ ys) ++ codes ")") ≡ (word ++ after_spaces xs) ++
+    (after_spaces ys ++ codes ")")
 in-two word xs ys = rw spaces-append (simp append_assoc)
 
 -- what follows the head
 abbrev pub tail_text : Problem → List FormulaTree → Node → List ℕ
 tail_text p ts n = cond (is_open n) (rest_from p (tree_of_node ts n) 0) []
 
-pub node-text : (p : Problem) (ts : List FormulaTree) (n : Node) → formula_text p.names p.domain (tree_of_node ts n) ≡ head_text p.names p.domain n ++ tail_text p ts n
+pub node-text : (p : Problem) (ts : List FormulaTree) (n : Node) → formula_text p.names p.domain (tree_of_node ts n) ≡
+    head_text p.names p.domain n ++ tail_text p ts n
 unfolding formula_text in_parentheses tree_of_node subformulas rest_from
 node-text p ts node.True = refl
 node-text p ts node.False = refl
 node-text p ts (node.Basic f) = sym (append-nil (formula_text p.names p.domain (tree_of_formula f)))
 node-text p ts (node.Not i) = refl
-node-text p ts (node.And ids) = ap (λ xs. codes "(and" ++ (after_spaces xs ++ codes ")")) (texts-of p.names p.domain (formulas_of_list (map (tree_at ts) ids)))
-node-text p ts (node.Or ids) = ap (λ xs. codes "(or" ++ (after_spaces xs ++ codes ")")) (texts-of p.names p.domain (formulas_of_list (map (tree_at ts) ids)))
+node-text p ts (node.And ids) = ap (λ xs. codes "(and" ++ (after_spaces xs ++ codes ")"))
+    (texts-of p.names p.domain (formulas_of_list (map (tree_at ts) ids)))
+node-text p ts (node.Or ids) = ap (λ xs. codes "(or" ++ (after_spaces xs ++ codes ")"))
+    (texts-of p.names p.domain (formulas_of_list (map (tree_at ts) ids)))
 node-text p ts (node.Next i) = refl
 node-text p ts (node.Always i) = refl
 node-text p ts (node.Eventually i) = refl
@@ -145,6 +153,8 @@ node-text p ts (node.Until i j) = refl
 node-text p ts (node.Within k i) = in-two (codes "(within") (decimal k ∷ []) (formula_text p.names p.domain (tree_at ts i) ∷ [])
 node-text p ts (node.During k i) = in-two (codes "(for") (decimal k ∷ []) (formula_text p.names p.domain (tree_at ts i) ∷ [])
 node-text p ts (node.ForAll xs b i) =
-    in-two (codes "(forall") (variables_text p.names xs ∷ bound_text p.names p.domain b ∷ []) (formula_text p.names p.domain (tree_at ts i) ∷ [])
+    in-two (codes "(forall") (variables_text p.names xs ∷ bound_text p.names p.domain b ∷ [])
+    (formula_text p.names p.domain (tree_at ts i) ∷ [])
 node-text p ts (node.Exists xs b i) =
-    in-two (codes "(exists") (variables_text p.names xs ∷ bound_text p.names p.domain b ∷ []) (formula_text p.names p.domain (tree_at ts i) ∷ [])
+    in-two (codes "(exists") (variables_text p.names xs ∷ bound_text p.names p.domain b ∷ [])
+    (formula_text p.names p.domain (tree_at ts i) ∷ [])

@@ -11,7 +11,9 @@ use Rattle.tl_syntax.specs.declared.value.Op.TheVariants.{Plus}
 use Rattle.tl_syntax.specs.declared.value.Value.TheVariants.{Int, Sym}
 use Rattle.tl_syntax.specs.declared.variable.Arg.TheVariants as arg
 use Rattle.tl_syntax.specs.declared.variable.Var.{Var}
-use Rattle.tl_syntax.specs.Trees.{FormulaTree, TermTree, verum, falsum, atom, compare, goal_fact, goal_place, goal_not, negation, conjunction, disjunction, for_all, for_some, next, always, eventually, until, within, during, formulas_of_list, variable, value, place, arith, no_term, more_terms}
+use Rattle.tl_syntax.specs.Trees.{FormulaTree, TermTree, verum, falsum, atom, compare, goal_fact, goal_place, goal_not, negation}
+use Rattle.tl_syntax.specs.Trees.{conjunction, disjunction, for_all, for_some, next, always, eventually, until, within, during}
+use Rattle.tl_syntax.specs.Trees.{formulas_of_list, variable, value, place, arith, no_term, more_terms}
 use Rattle.tl_label.specs.Labels.{formula_text, label_of}
 use Rattle.tl_label.specs.Parts.{after_spaces, in_parentheses}
 use Rattle.tl_label.specs.Terms.{term_text}
@@ -49,7 +51,8 @@ pub no_part : (d : Domain) → formula_text names d (conjunction (formulas_of_li
 unfolding formula_text term_text in_parentheses after_spaces
 no_part d = refl
 
-pub two_parts : (d : Domain) → formula_text names d (disjunction (formulas_of_list (conjunction (formulas_of_list []) ∷ falsum ∷ []))) ≡ codes "(or (and) false)"
+pub two_parts : (d : Domain) → formula_text names d (disjunction (formulas_of_list (conjunction (formulas_of_list []) ∷ falsum ∷ []))) ≡
+    codes "(or (and) false)"
 unfolding formula_text term_text in_parentheses after_spaces
 two_parts d = refl
 
@@ -69,17 +72,20 @@ unfolding formula_text term_text in_parentheses after_spaces digits
 two_limits d = refl
 
 -- (forall (?x) (on ?x) (goal (on ?x)))
-pub a_quantifier : (d : Domain) → IsSmall d → formula_text names d (for_all (x ∷ []) (bound.Fact 0 (arg.Var x ∷ [])) (goal_fact 0 (arg.Var x ∷ []))) ≡ codes "(forall (?x) (on ?x) (goal (on ?x)))"
+pub a_quantifier : (d : Domain) → IsSmall d → formula_text names d (for_all (x ∷ []) (bound.Fact 0 (arg.Var x ∷ []))
+    (goal_fact 0 (arg.Var x ∷ []))) ≡ codes "(forall (?x) (on ?x) (goal (on ?x)))"
 unfolding formula_text term_text in_parentheses after_spaces
 a_quantifier d small = rw small.predicates refl
 
 -- (exists (?x) (goal (not (on ?x))) (on ?x))
-pub a_bound_under_goal : (d : Domain) → IsSmall d → formula_text names d (for_some (x ∷ []) (bound.GoalNot 0 (arg.Var x ∷ [])) on_x) ≡ codes "(exists (?x) (goal (not (on ?x))) (on ?x))"
+pub a_bound_under_goal : (d : Domain) → IsSmall d → formula_text names d (for_some (x ∷ []) (bound.GoalNot 0 (arg.Var x ∷ [])) on_x) ≡
+    codes "(exists (?x) (goal (not (on ?x))) (on ?x))"
 unfolding formula_text term_text in_parentheses after_spaces
 a_bound_under_goal d small = rw small.predicates refl
 
 -- (<= (+ (n) 1) -7)
-pub a_comparison : (d : Domain) → IsSmall d → formula_text names d (compare AtMost (arith Plus n (value (Int (pos 1))) 0) (value (Int (negsuc 6)))) ≡ codes "(<= (+ (n) 1) -7)"
+pub a_comparison : (d : Domain) → IsSmall d → formula_text names d (compare AtMost (arith Plus n (value (Int (pos 1))) 0)
+    (value (Int (negsuc 6)))) ≡ codes "(<= (+ (n) 1) -7)"
 unfolding formula_text term_text in_parentheses after_spaces digits
 a_comparison d small = rw small.functions refl
 

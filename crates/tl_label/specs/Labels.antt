@@ -5,9 +5,12 @@ use Rattle.std.specs.Fmt.{decimal}
 use Rattle.tl_syntax.specs.declared.definition.Definition.{Definition}
 use Rattle.tl_syntax.specs.declared.domain.Domain.{Domain}
 use Rattle.tl_syntax.specs.declared.variable.Var.{Var}
-use Rattle.tl_syntax.specs.Trees.{FormulaTree, FormulaTrees, verum, falsum, atom, defined, compare, goal_fact, goal_place, goal_not, negation, conjunction, disjunction, for_all, for_some, next, always, eventually, until, within, during, no_formula, more_formulas}
+use Rattle.tl_syntax.specs.Trees.{FormulaTree, FormulaTrees, verum, falsum, atom, defined, compare, goal_fact, goal_place, goal_not}
+use Rattle.tl_syntax.specs.Trees.{negation, conjunction, disjunction, for_all, for_some, next, always, eventually, until, within, during}
+use Rattle.tl_syntax.specs.Trees.{no_formula, more_formulas}
 use Rattle.tl_label.specs.Parts.{in_parentheses}
-use Rattle.tl_label.specs.Terms.{declared_text, comparison_text, variable_text, fact_text, place_text, not_text, goal_text, bound_text, term_text, term_texts}
+use Rattle.tl_label.specs.Terms.{declared_text, comparison_text, variable_text, fact_text, place_text, not_text, goal_text, bound_text}
+use Rattle.tl_label.specs.Terms.{term_text, term_texts}
 
 -- the name of the definition at this position
 abbrev pub definition_text : List (List ℕ) → List Definition → ℕ → List ℕ
@@ -32,8 +35,10 @@ unfoldable mutual
   formula_text names domain (negation f) = not_text (formula_text names domain f)
   formula_text names domain (conjunction fs) = in_parentheses (codes "and" ∷ formula_texts names domain fs)
   formula_text names domain (disjunction fs) = in_parentheses (codes "or" ∷ formula_texts names domain fs)
-  formula_text names domain (for_all xs b f) = in_parentheses (codes "forall" ∷ variables_text names xs ∷ bound_text names domain b ∷ formula_text names domain f ∷ [])
-  formula_text names domain (for_some xs b f) = in_parentheses (codes "exists" ∷ variables_text names xs ∷ bound_text names domain b ∷ formula_text names domain f ∷ [])
+  formula_text names domain (for_all xs b f) = in_parentheses (codes "forall" ∷ variables_text names xs ∷ bound_text names domain b ∷
+      formula_text names domain f ∷ [])
+  formula_text names domain (for_some xs b f) = in_parentheses (codes "exists" ∷ variables_text names xs ∷ bound_text names domain b ∷
+      formula_text names domain f ∷ [])
   formula_text names domain (next f) = in_parentheses (codes "next" ∷ formula_text names domain f ∷ [])
   formula_text names domain (always f) = in_parentheses (codes "always" ∷ formula_text names domain f ∷ [])
   formula_text names domain (eventually f) = in_parentheses (codes "eventually" ∷ formula_text names domain f ∷ [])

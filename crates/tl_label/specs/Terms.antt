@@ -48,7 +48,8 @@ fact_text names domain p xs = in_parentheses (declared_text names domain.predica
 
 -- a place with its value: an equality of the function with its arguments and the value
 abbrev pub place_text : List (List ℕ) → Domain → ℕ → List Arg → Arg → List ℕ
-place_text names domain f xs x = in_parentheses (codes "=" ∷ in_parentheses (declared_text names domain.functions f ∷ map (arg_text names) xs) ∷ arg_text names x ∷ [])
+place_text names domain f xs x = in_parentheses (codes "=" ∷ in_parentheses
+    (declared_text names domain.functions f ∷ map (arg_text names) xs) ∷ arg_text names x ∷ [])
 
 -- the negation of a text
 abbrev pub not_text : List ℕ → List ℕ

@@ -15,10 +15,15 @@ begins-grown old new text is = record { more = text; is = is }
 
 -- what begins with bytes that begin with others begins with these
 pub begins-on : (old middle new : List ℕ) → ContinuesTo old middle → ContinuesTo middle new → ContinuesTo old new
-begins-on old middle new first second = record { more = first.more ++ second.more; is = rw (second.is, first.is) (append_assoc old first.more second.more) }
+begins-on old middle new first second = record {
+  more = first.more ++ second.more;
+  is =
+      rw (second.is, first.is) (append_assoc old first.more second.more);
+}
 
 -- the operator of a named action is there
-pub operator-there : (names : List (List ℕ)) (operators : List Operator) (a : Action) → ActionIsNamed names operators a → a.op < length operators
+pub operator-there : (names : List (List ℕ)) (operators : List Operator) (a : Action) → ActionIsNamed names operators a →
+    a.op < length operators
 operator-there names operators a h =
     let within = slice_get_within (map (λ o. length o.params) operators) a.op (length a.args) h.takes in
     omega (arith, length-map {A = Operator} operators (λ o. length o.params))

@@ -1,5 +1,6 @@
 -- Pieces of bytes at their places, and bytes without comments.
-use Rattle.std.proofs.Common.{◌≡◌, ℕ, zero, suc, ◌+◌, ◌-◌, ◌<◌, ◌≤◌, List, [], ◌∷◌, ◌++◌, length, slice_index, slice_range, inl, inr, refl, sym, ap, ◌∙◌, add_assoc, add-zero, zero-add, length-append, arith}
+use Rattle.std.proofs.Common.{◌≡◌, ℕ, zero, suc, ◌+◌, ◌-◌, ◌<◌, ◌≤◌, List, [], ◌∷◌, ◌++◌, length, slice_index, slice_range, inl, inr, refl}
+use Rattle.std.proofs.Common.{sym, ap, ◌∙◌, add_assoc, add-zero, zero-add, length-append, arith}
 use Rattle.std.proofs.lemmas.Bool.{cases_lt}
 use Rattle.std.proofs.lemmas.Grind.{same_number_lists}
 use Rattle.std.proofs.lemmas.List.{get_or_append_left, get_or-append_right, get_or-append-add, get_or_past}
@@ -24,17 +25,24 @@ pub has-back : (bytes : List ℕ) (at : ℕ) (xs ys : List ℕ) → Has bytes at
 has-back bytes at xs ys h =
     let long = length-append xs ys in
     let within = h.within in
-    record { within = omega arith; same = λ k lt. ap (slice_index bytes) (add_assoc at (length xs) k) ∙ (h.same (length xs + k) (omega arith) ∙ get_or-append-add xs ys k 0) }
+    record {
+      within = omega arith;
+      same = λ k lt. ap (slice_index bytes) (add_assoc at (length xs) k) ∙
+          (h.same (length xs + k) (omega arith) ∙ get_or-append-add xs ys k 0);
+    }
 
 -- its first byte
-pub has-first : (bytes : List ℕ) (at : ℕ) (piece : List ℕ) → 0 < length piece → Has bytes at piece → slice_index bytes at ≡ slice_index piece 0
+pub has-first : (bytes : List ℕ) (at : ℕ) (piece : List ℕ) → 0 < length piece → Has bytes at piece → slice_index bytes at ≡
+    slice_index piece 0
 has-first bytes at piece some h = ap (slice_index bytes) (sym (add-zero at)) ∙ h.same 0 some
 
 -- the range of its bytes
 pub has-range : (bytes : List ℕ) (at : ℕ) (piece : List ℕ) → Has bytes at piece → slice_range bytes at (at + length piece) ≡ piece
 has-range bytes at piece h =
-    let long : length (slice_range bytes at (at + length piece)) ≡ at + length piece - at = length-between bytes at (at + length piece) h.within in
-    same_number_lists (slice_range bytes at (at + length piece)) piece (omega arith) (λ k lt. get_or-between bytes at (at + length piece) k 0 (omega arith) ∙ h.same k (omega arith))
+    let long : length (slice_range bytes at (at + length piece)) ≡ at + length piece - at =
+    length-between bytes at (at + length piece) h.within in
+    same_number_lists (slice_range bytes at (at + length piece)) piece (omega arith)
+    (λ k lt. get_or-between bytes at (at + length piece) k 0 (omega arith) ∙ h.same k (omega arith))
 
 -- no byte begins a comment
 abbrev pub HasNoComment : List ℕ → Type 0

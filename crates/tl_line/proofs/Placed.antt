@@ -18,15 +18,18 @@ either-way true bs = refl
 either-way false bs = append-nil bs
 
 -- within the limit an action breaks what it breaks by itself
-pub placed-within : (names : List (List ℕ)) (operators : List Operator) (before : ℕ) (f : FormTree) → nat_lt before 100000 ≡ true → placed_breaks names operators before f ≡ action_breaks names operators f
+pub placed-within : (names : List (List ℕ)) (operators : List Operator) (before : ℕ) (f : FormTree) → nat_lt before 100000 ≡ true →
+    placed_breaks names operators before f ≡ action_breaks names operators f
 placed-within names operators before f few = rw few (either-way (is_call f) (action_breaks names operators f))
 
 -- past the limit a list that begins with a symbol breaks the limit first
-pub placed-call : (names : List (List ℕ)) (operators : List Operator) (before : ℕ) (f : FormTree) → nat_lt before 100000 ≡ false → is_call f ≡ true → IsFirst (placed_breaks names operators before f) (Breaks Limit (offset_of f))
+pub placed-call : (names : List (List ℕ)) (operators : List Operator) (before : ℕ) (f : FormTree) → nat_lt before 100000 ≡ false →
+    is_call f ≡ true → IsFirst (placed_breaks names operators before f) (Breaks Limit (offset_of f))
 placed-call names operators before f many call = rw (call, many) refl
 
 -- and every other form the rule on its shape
-pub placed-other : (names : List (List ℕ)) (operators : List Operator) (before : ℕ) (f : FormTree) → is_call f ≡ false → IsFirst (placed_breaks names operators before f) (Breaks Shape (offset_of f))
+pub placed-other : (names : List (List ℕ)) (operators : List Operator) (before : ℕ) (f : FormTree) → is_call f ≡ false →
+    IsFirst (placed_breaks names operators before f) (Breaks Shape (offset_of f))
 placed-other names operators before f other = rw (other, action-shape names operators f other) refl
 
 pub ruleset placed = (placed-within, placed-call, placed-other)

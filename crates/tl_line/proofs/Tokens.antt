@@ -1,5 +1,6 @@
 -- The texts of values as tokens.
-use Rattle.std.proofs.Common.{◌≡◌, ℕ, ◌+◌, ◌-◌, ◌^◌, ◌<◌, List, [], ◌∷◌, length, slice_index, ℤ, pos, negsuc, neg_ℤ, zero, suc, Bool, true, false, ◌&&◌, ◌==◌, nat_lt, FitsSigned, IsTrue, w64, inl, inr, refl, sym, ap, ◌∙◌, lt-ltb, eqb-true, arith}
+use Rattle.std.proofs.Common.{◌≡◌, ℕ, ◌+◌, ◌-◌, ◌^◌, ◌<◌, List, [], ◌∷◌, length, slice_index, ℤ, pos, negsuc, neg_ℤ, zero, suc, Bool, true}
+use Rattle.std.proofs.Common.{false, ◌&&◌, ◌==◌, nat_lt, FitsSigned, IsTrue, w64, inl, inr, refl, sym, ap, ◌∙◌, lt-ltb, eqb-true, arith}
 use Rattle.std.proofs.lemmas.Int.{ints}
 use Rattle.std.proofs.lemmas.Bool.{cases_lt, false≢true, and_from, and_parts}
 use Rattle.std.proofs.lemmas.Fmt.{digits_decimal, digits_value-decimal, decimal_nonempty}
@@ -34,7 +35,9 @@ clean-token text h = λ k is.
     ]
 
 -- such a text between bytes that are none of a token is a token
-pub token : (bytes : List ℕ) (from : ℕ) (text : List ℕ) → HasNoComment bytes → IsTokenText text → Has bytes from text → ((k : ℕ) → k + 1 ≡ from → is_token_byte (slice_index bytes k) ≡ false) → is_token_byte (slice_index bytes (from + length text)) ≡ false → IsToken bytes from (from + length text)
+pub token : (bytes : List ℕ) (from : ℕ) (text : List ℕ) → HasNoComment bytes → IsTokenText text → Has bytes from text →
+    ((k : ℕ) → k + 1 ≡ from → is_token_byte (slice_index bytes k) ≡ false) → is_token_byte (slice_index bytes (from + length text)) ≡
+    false → IsToken bytes from (from + length text)
 token bytes from text clean t h starts ends =
     let some = t.some in
     let within = h.within in
@@ -44,7 +47,8 @@ token bytes from text clean t h starts ends =
           let place : k ≡ from + (k - from) = omega arith in
           record {
             within = omega arith;
-            token_byte = ap is_token_byte (ap (slice_index bytes) place ∙ h.same (k - from) (omega arith)) ∙ t.each (k - from) (omega arith);
+            token_byte = ap is_token_byte (ap (slice_index bytes) place ∙ h.same (k - from) (omega arith)) ∙
+                t.each (k - from) (omega arith);
             outside = outside bytes clean k;
           };
       starts = λ k next at. false≢true (sym (starts k next) ∙ at.token_byte);
@@ -58,7 +62,8 @@ digit-is-token : (c : ℕ) → is_ascii_digit c ≡ true → is_token_byte c ≡
 digit-is-token c h = rw h refl
 
 digits-tested : (text : List ℕ) → list_all is_ascii_digit text ≡ all_ascii_digits text
-digits-tested text = same_from_clauses (list_all is_ascii_digit) all_ascii_digits (λ x r. is_ascii_digit x && r) refl (λ _ _. refl) (λ _ _. refl) text
+digits-tested text = same_from_clauses (list_all is_ascii_digit) all_ascii_digits (λ x r. is_ascii_digit x && r) refl (λ _ _. refl)
+    (λ _ _. refl) text
 
 each-digit : (text : List ℕ) (k : ℕ) → all_ascii_digits text ≡ true → k < length text → is_ascii_digit (slice_index text k) ≡ true
 each-digit text k all lt = by_test (is_ascii_digit (slice_index text k)) refl
@@ -88,10 +93,12 @@ minus-token text t = record {
 
 pub decimal-token : (z : ℤ) → FitsSigned w64 z → IsTokenText (signed_decimal z)
 decimal-token (pos n) fits = numeral-token (decimal n) (digits_decimal own n (small n fits)) (decimal_nonempty n (small n fits))
-decimal-token (negsuc n) fits = minus-token (decimal (suc n)) (numeral-token (decimal (suc n)) (digits_decimal own (suc n) (small-negative n fits)) (decimal_nonempty (suc n) (small-negative n fits)))
+decimal-token (negsuc n) fits = minus-token (decimal (suc n)) (numeral-token (decimal (suc n))
+    (digits_decimal own (suc n) (small-negative n fits)) (decimal_nonempty (suc n) (small-negative n fits)))
 
 is-numeral : (n : ℕ) → n < 2 ^ 64 → is_numeral (decimal n) ≡ true
-is-numeral n lt = and_from (all_ascii_digits (decimal n)) (nat_lt 0 (length (decimal n))) (digits_decimal own n lt) (lt-ltb 0 (length (decimal n)) (decimal_nonempty n lt))
+is-numeral n lt = and_from (all_ascii_digits (decimal n)) (nat_lt 0 (length (decimal n))) (digits_decimal own n lt)
+    (lt-ltb 0 (length (decimal n)) (decimal_nonempty n lt))
 
 -- digits are no sign
 no-sign : (text : List ℕ) → is_numeral text ≡ true → (spells_integer text ≡ true) × (integer_value text ≡ pos (digits_value 10 text))

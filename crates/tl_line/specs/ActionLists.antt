@@ -16,9 +16,11 @@ limit_breaks before at = breaks_if (not (nat_lt before 100000)) Limit at
 -- than the limit, and those on its operator have greater ones
 abbrev pub placed_breaks : List (List ℕ) → List Operator → ℕ → FormTree → List Break
 placed_breaks names operators before f =
-    if is_call f then limit_breaks before (offset_of f) ++ action_breaks names operators f else action_breaks names operators f ++ limit_breaks before (offset_of f)
+    if is_call f then limit_breaks before (offset_of f) ++ action_breaks names operators f else action_breaks names operators f ++
+    limit_breaks before (offset_of f)
 
 -- what actions break with so many actions before them
 abbrev pub actions_breaks : List (List ℕ) → List Operator → ℕ → FormTrees → List Break
 actions_breaks names operators before no_form = []
-actions_breaks names operators before (more_forms f fs) = placed_breaks names operators before f ++ actions_breaks names operators (before + 1) fs
+actions_breaks names operators before (more_forms f fs) = placed_breaks names operators before f ++
+    actions_breaks names operators (before + 1) fs

@@ -3,7 +3,8 @@
 -- An action is a list `(NAME c*)`. NAME is the text of an operator's name, and the arguments are as
 -- many values as the operator has parameters. A symbol is a value where it stands in the domain
 -- file or the problem file, which is where the table of names has its text.
-use Rattle.std.specs.Prelude.{ℕ, List, [], ◌∷◌, ◌++◌, Bool, false, ◌||◌, ◌==◌, not, length, Option, Some, None, is_some, slice_get, option_and_then}
+use Rattle.std.specs.Prelude.{ℕ, List, [], ◌∷◌, ◌++◌, Bool, false, ◌||◌, ◌==◌, not, length, Option, Some, None, is_some, slice_get}
+use Rattle.std.specs.Prelude.{option_and_then}
 use Rattle.std.specs.List.{position}
 use Rattle.std.specs.Option.{option_map_or}
 use Rattle.tl_sexpr.specs.Tree.{FormTree, FormTrees, symbol, integer, list, no_form, more_forms}
@@ -43,5 +44,6 @@ named_values_breaks names (more_forms f fs) = named_value_breaks names f ++ name
 
 -- what an action breaks, with its arguments
 unfoldable pub action_breaks : List (List ℕ) → List Operator → FormTree → List Break
-action_breaks names operators (list (more_forms (symbol text _) rest) at) = named_operator_breaks names operators text (count rest) at ++ named_values_breaks names rest
+action_breaks names operators (list (more_forms (symbol text _) rest) at) = named_operator_breaks names operators text (count rest) at ++
+    named_values_breaks names rest
 action_breaks names operators f = (Shape, offset_of f) ∷ []

@@ -33,7 +33,8 @@ unfolding action_breaks
 an_action o press = rw (press.name, press.one) refl
 
 -- (press -7)
-pub an_integer : (o : Operator) → IsPress o → action_meant names (o ∷ []) (forms (symbol (codes "press") 1 ∷ integer (negsuc 6) 7 ∷ []) 0) ≡ record { op = 0; args = Int (negsuc 6) ∷ [] }
+pub an_integer : (o : Operator) → IsPress o → action_meant names (o ∷ []) (forms (symbol (codes "press") 1 ∷ integer (negsuc 6) 7 ∷ []) 0) ≡
+    record { op = 0; args = Int (negsuc 6) ∷ [] }
 unfolding action_meant
 an_integer o press = rw press.name refl
 
@@ -58,12 +59,14 @@ unfolding action_breaks
 no_argument o press = rw (press.name, press.one) refl
 
 -- (press ?x)
-pub a_variable : (o : Operator) → IsPress o → answer o (forms (symbol (codes "press") 1 ∷ symbol (codes "?x") 7 ∷ []) 0) ≡ Some (NotAValue, 7)
+pub a_variable : (o : Operator) → IsPress o → answer o (forms (symbol (codes "press") 1 ∷ symbol (codes "?x") 7 ∷ []) 0) ≡
+    Some (NotAValue, 7)
 unfolding action_breaks
 a_variable o press = rw (press.name, press.one) refl
 
 -- (press zz)
-pub a_symbol_of_neither_file : (o : Operator) → IsPress o → answer o (forms (symbol (codes "press") 1 ∷ symbol (codes "zz") 7 ∷ []) 0) ≡ Some (NotAValue, 7)
+pub a_symbol_of_neither_file : (o : Operator) → IsPress o → answer o (forms (symbol (codes "press") 1 ∷ symbol (codes "zz") 7 ∷ []) 0) ≡
+    Some (NotAValue, 7)
 unfolding action_breaks
 a_symbol_of_neither_file o press = rw (press.name, press.one) refl
 

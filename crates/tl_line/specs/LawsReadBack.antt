@@ -23,4 +23,5 @@ pub record IsReadAs (names : List (List ℕ)) (operators : List Operator) (bytes
 abbrev pub TextIsReadBack : Type 0
 TextIsReadBack =
     (names : List (List ℕ)) (operators : List Operator) (a : Action) →
-    AreDistinct names → Differ (map (λ o. o.name) operators) → IsWritable names operators a → IsReadAs names operators (action_text names operators a) a
+    AreDistinct names → Differ (map (λ o. o.name) operators) → IsWritable names operators a →
+    IsReadAs names operators (action_text names operators a) a

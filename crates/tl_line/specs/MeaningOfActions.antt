@@ -9,7 +9,8 @@ use Rattle.tl_line.specs.Actions.{operator_at}
 
 -- an action: its operator, and its arguments
 unfoldable pub action_meant : List (List ℕ) → List Operator → FormTree → Action
-action_meant names operators (list (more_forms (symbol text _) rest) at) = record { op = unwrap_or (operator_at names operators text) 0; args = values_meant names rest }
+action_meant names operators (list (more_forms (symbol text _) rest) at) =
+    record { op = unwrap_or (operator_at names operators text) 0; args = values_meant names rest }
 action_meant names operators _ = record { op = 0; args = [] }
 
 -- one action for each form, in their order

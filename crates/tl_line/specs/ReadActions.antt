@@ -42,4 +42,5 @@ ReadsPlacedAction p before f result =
 -- actions of a problem, with so many actions before them
 abbrev pub ReadsActions : Problem → ℕ → FormTrees → Result (List Action) FormFault → Type 0
 ReadsActions p before fs result =
-    Reads (λ (xs : List Action). xs) result (actions_breaks p.names p.domain.operators before fs) (actions_meant p.names p.domain.operators fs)
+    Reads (λ (xs : List Action). xs) result (actions_breaks p.names p.domain.operators before fs)
+    (actions_meant p.names p.domain.operators fs)

@@ -65,10 +65,12 @@ pub record DifferFrom (k : Key) (ps : List (Key × Value)) : Type 0 where
   pub before : (b : Value) → list_all (λ a. agree a (k, b)) ps ≡ true
   pub after : (b : Value) → list_all (agree (k, b)) ps ≡ true
 
-absent-head : (k : Key) (p : Key × Value) (ps : List (Key × Value)) → lookup (same_place k) (p ∷ ps) ≡ None → (same_place k p.0 ≡ false) × (lookup (same_place k) ps ≡ None)
+absent-head : (k : Key) (p : Key × Value) (ps : List (Key × Value)) → lookup (same_place k) (p ∷ ps) ≡ None → (same_place k p.0 ≡ false) ×
+    (lookup (same_place k) ps ≡ None)
 absent-head k p ps h = by_test (same_place k p.0) refl h
   where
-    by_test : (t : Bool) → same_place k p.0 ≡ t → cond t (Some p.1) (lookup (same_place k) ps) ≡ None → (same_place k p.0 ≡ false) × (lookup (same_place k) ps ≡ None)
+    by_test : (t : Bool) → same_place k p.0 ≡ t → cond t (Some p.1) (lookup (same_place k) ps) ≡ None → (same_place k p.0 ≡ false) ×
+        (lookup (same_place k) ps ≡ None)
     by_test true e g = cc
     by_test false e g = (e, g)
 
@@ -82,7 +84,8 @@ absent-differ k (p ∷ ps) h =
       after = λ b. with_both (differ-agree (k, b) p (key-test k p.0 ∙ here.0)) (later.after b);
     }
 
-all-both : {A : Type 0} (f g : A → Bool) (xs : List A) → list_all f xs ≡ true → list_all g xs ≡ true → list_all (λ x. f x && (g x && true)) xs ≡ true
+all-both : {A : Type 0} (f g : A → Bool) (xs : List A) → list_all f xs ≡ true → list_all g xs ≡ true →
+    list_all (λ x. f x && (g x && true)) xs ≡ true
 all-both f g [] h k = refl
 all-both f g (x ∷ xs) h k =
     let a = both (f x) (list_all f xs) h in
@@ -108,12 +111,15 @@ map-last f [] y = refl
 map-last f (x ∷ xs) y = ap (λ rest. f x ∷ rest) (map-last f xs y)
 
 -- places of which each has one value, with a place that has none or that value
-pub agrees-with_value : (values : List PlaceValue) (x : PlaceValue) → no_clash (map place_entry values) ≡ true → no_clash (map place_entry (with_value values x)) ≡ true
+pub agrees-with_value : (values : List PlaceValue) (x : PlaceValue) → no_clash (map place_entry values) ≡ true →
+    no_clash (map place_entry (with_value values x)) ≡ true
 agrees-with_value values x h = by_value (value_among values (x.fun, x.args)) refl
   where
-    by_value : (found : Option Value) → value_among values (x.fun, x.args) ≡ found → no_clash (map place_entry (cond (is_some found) values (values ++ x ∷ []))) ≡ true
+    by_value : (found : Option Value) → value_among values (x.fun, x.args) ≡ found →
+        no_clash (map place_entry (cond (is_some found) values (values ++ x ∷ []))) ≡ true
     by_value (Some v) e = h
-    by_value None e = ap no_clash (map-last place_entry values x) ∙ no_clash-more (map place_entry values) (place_entry x) h (absent-differ (x.fun, x.args) (map place_entry values) e)
+    by_value None e = ap no_clash (map-last place_entry values x) ∙ no_clash-more (map place_entry values) (place_entry x) h
+        (absent-differ (x.fun, x.args) (map place_entry values) e)
 
 none-either : (a b : Bool) → (a || b) ≡ false → (a ≡ false) × (b ≡ false)
 none-either false b h = (refl, h)
@@ -123,39 +129,47 @@ with_neither : {a b : Bool} → a ≡ false → b ≡ false → (a || b) ≡ fal
 with_neither {a} {b} h k = ap (λ (t : Bool). t || b) h ∙ k
 
 -- a fact that is not negated is no key of the negated ones
-unshared-fact : (f : Fact) (nots : List Fact) → list_any (fact_eq f) nots ≡ false → list_any (λ k. is_eq (key_cmp (fact_key f) k)) (map fact_key nots) ≡ false
+unshared-fact : (f : Fact) (nots : List Fact) → list_any (fact_eq f) nots ≡ false →
+    list_any (λ k. is_eq (key_cmp (fact_key f) k)) (map fact_key nots) ≡ false
 unshared-fact f [] h = refl
 unshared-fact f (g ∷ nots) h =
     let parts = none-either (fact_eq f g) (list_any (fact_eq f) nots) h in
     with_neither (fact-test f g ∙ parts.0) (unshared-fact f nots parts.1)
 
-unshared-last : (js : List Key) (ks : List Key) (k : Key) → share_key js ks ≡ false → list_any (λ j. is_eq (key_cmp j k)) js ≡ false → share_key js (ks ++ k ∷ []) ≡ false
+unshared-last : (js : List Key) (ks : List Key) (k : Key) → share_key js ks ≡ false → list_any (λ j. is_eq (key_cmp j k)) js ≡ false →
+    share_key js (ks ++ k ∷ []) ≡ false
 unshared-last [] ks k h n = refl
 unshared-last (j ∷ js) ks k h n =
     let a = none-either (list_any (λ i. is_eq (key_cmp j i)) ks) (share_key js ks) h in
     let b = none-either (is_eq (key_cmp j k)) (list_any (λ i. is_eq (key_cmp i k)) js) n in
-    with_neither (list_any-append (λ i. is_eq (key_cmp j i)) ks (k ∷ []) ∙ with_neither a.0 (with_neither b.0 refl)) (unshared-last js ks k a.1 b.1)
+    with_neither (list_any-append (λ i. is_eq (key_cmp j i)) ks (k ∷ []) ∙ with_neither a.0 (with_neither b.0 refl))
+    (unshared-last js ks k a.1 b.1)
 
-unshared-keys : (f : Fact) (facts : List Fact) → list_any (fact_eq f) facts ≡ false → list_any (λ j. is_eq (key_cmp j (fact_key f))) (map fact_key facts) ≡ false
+unshared-keys : (f : Fact) (facts : List Fact) → list_any (fact_eq f) facts ≡ false →
+    list_any (λ j. is_eq (key_cmp j (fact_key f))) (map fact_key facts) ≡ false
 unshared-keys f [] h = refl
 unshared-keys f (g ∷ facts) h =
     let parts = none-either (fact_eq f g) (list_any (fact_eq f) facts) h in
     with_neither (fact-test-back f g ∙ parts.0) (unshared-keys f facts parts.1)
 
 -- a fact more, which is not negated
-pub consistent-with_fact : (facts nots : List Fact) (f : Fact) → share_key (map fact_key facts) (map fact_key nots) ≡ false → list_any (fact_eq f) nots ≡ false → share_key (map fact_key (with_fact facts f)) (map fact_key nots) ≡ false
+pub consistent-with_fact : (facts nots : List Fact) (f : Fact) → share_key (map fact_key facts) (map fact_key nots) ≡ false →
+    list_any (fact_eq f) nots ≡ false → share_key (map fact_key (with_fact facts f)) (map fact_key nots) ≡ false
 consistent-with_fact facts nots f h n = by_test (list_any (fact_eq f) facts)
   where
     by_test : (known : Bool) → share_key (map fact_key (cond known facts (facts ++ f ∷ []))) (map fact_key nots) ≡ false
     by_test true = h
     by_test false =
         let shared : Key → Bool = λ j. list_any (λ k. is_eq (key_cmp j k)) (map fact_key nots) in
-        ap (λ js. share_key js (map fact_key nots)) (map-last fact_key facts f) ∙ list_any-append shared (map fact_key facts) (fact_key f ∷ []) ∙ with_neither h (with_neither (unshared-fact f nots n) refl)
+        ap (λ js. share_key js (map fact_key nots)) (map-last fact_key facts f) ∙
+        list_any-append shared (map fact_key facts) (fact_key f ∷ []) ∙ with_neither h (with_neither (unshared-fact f nots n) refl)
 
 -- a negated fact more, which is no fact
-pub consistent-with_not : (facts nots : List Fact) (f : Fact) → share_key (map fact_key facts) (map fact_key nots) ≡ false → list_any (fact_eq f) facts ≡ false → share_key (map fact_key facts) (map fact_key (with_fact nots f)) ≡ false
+pub consistent-with_not : (facts nots : List Fact) (f : Fact) → share_key (map fact_key facts) (map fact_key nots) ≡ false →
+    list_any (fact_eq f) facts ≡ false → share_key (map fact_key facts) (map fact_key (with_fact nots f)) ≡ false
 consistent-with_not facts nots f h n = by_test (list_any (fact_eq f) nots)
   where
     by_test : (known : Bool) → share_key (map fact_key facts) (map fact_key (cond known nots (nots ++ f ∷ []))) ≡ false
     by_test true = h
-    by_test false = ap (share_key (map fact_key facts)) (map-last fact_key nots f) ∙ unshared-last (map fact_key facts) (map fact_key nots) (fact_key f) h (unshared-keys f facts n)
+    by_test false = ap (share_key (map fact_key facts)) (map-last fact_key nots f) ∙
+        unshared-last (map fact_key facts) (map fact_key nots) (fact_key f) h (unshared-keys f facts n)

@@ -8,13 +8,15 @@ use Rattle.tl_rules.specs.Parts.{count}
 use Rattle.tl_problem.specs.ProblemFiles.{has_problem_shape}
 use Rattle.tl_problem.specs.Facts.{place_value_breaks, negation_breaks}
 
-pub equality_count : (names : List (List ℕ)) (ds : List Declared) (fs : FormTrees) (at : ℕ) → (count fs == 2) ≡ false → place_value_breaks names ds fs at ≡ (Shape, at) ∷ []
+pub equality_count : (names : List (List ℕ)) (ds : List Declared) (fs : FormTrees) (at : ℕ) → (count fs == 2) ≡ false →
+    place_value_breaks names ds fs at ≡ (Shape, at) ∷ []
 equality_count names ds no_form at other = refl
 equality_count names ds (more_forms f no_form) at other = refl
 equality_count names ds (more_forms f (more_forms h no_form)) at other = absurd (true≢false other)
 equality_count names ds (more_forms f (more_forms h (more_forms i fs))) at other = refl
 
-pub negation_count : (names : List (List ℕ)) (ds : List Declared) (fs : FormTrees) (at : ℕ) → (count fs == 1) ≡ false → negation_breaks names ds fs at ≡ (Shape, at) ∷ []
+pub negation_count : (names : List (List ℕ)) (ds : List Declared) (fs : FormTrees) (at : ℕ) → (count fs == 1) ≡ false →
+    negation_breaks names ds fs at ≡ (Shape, at) ∷ []
 negation_count names ds no_form at other = refl
 negation_count names ds (more_forms f no_form) at other = absurd (true≢false other)
 negation_count names ds (more_forms f (more_forms h fs)) at other = refl

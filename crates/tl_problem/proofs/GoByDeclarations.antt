@@ -13,11 +13,13 @@ use Rattle.tl_rules.specs.Calls.{CallTree, call_in}
 use Rattle.tl_problem.specs.ElementWords.{ElementWord, element_word}
 use Rattle.tl_problem.specs.ElementWords as word
 use Rattle.tl_problem.specs.Literals.{Literals, no_literal, and_fact, and_value, and_not, fact_denied, fact_said, value_differs}
-use Rattle.tl_problem.specs.Elements.{breaks_or_else, element_call_breaks, with_element_call, called_breaks, with_called, element_breaks, with_element, elements_breaks, with_elements}
+use Rattle.tl_problem.specs.Elements.{breaks_or_else, element_call_breaks, with_element_call, called_breaks, with_called, element_breaks}
+use Rattle.tl_problem.specs.Elements.{with_element, elements_breaks, with_elements}
 use Rattle.tl_problem.specs.LawsDeclarations.{DeclareAlike, FilesGoByDeclarations}
 use Rattle.tl_problem.specs.Facts.{ground_breaks, fact_meant, place_value_breaks, place_value_meant, negation_breaks, negation_meant}
 use Rattle.tl_rules.specs.OneForm.{second_form_breaks}
-use Rattle.tl_problem.specs.ProblemFiles.{has_problem_shape, section_breaks, sections_breaks, problem_form_breaks, problem_file_breaks, sections_meant, problem_form_meant, problem_file_meant}
+use Rattle.tl_problem.specs.ProblemFiles.{has_problem_shape, section_breaks, sections_breaks, problem_form_breaks, problem_file_breaks}
+use Rattle.tl_problem.specs.ProblemFiles.{sections_meant, problem_form_meant, problem_file_meant}
 
 module _ (names : List (List ℕ)) (d e : Domain) (alike : DeclareAlike d e) where
   call_breaks : (l : Literals) (w : ElementWord) (c : CallTree) → element_call_breaks names d l w c ≡ element_call_breaks names e l w c

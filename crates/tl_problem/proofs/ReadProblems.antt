@@ -25,23 +25,29 @@ use Rattle.tl_problem.proofs.Kept.{problem-kept}
 
 -- ---- nothing is negated at first
 
-init-word : (c : CallTree) (names : List (List ℕ)) (d : Domain) (l : Literals) → l.nots ≡ [] → (with_element_call names d l (element_word section.Init c.word) c).nots ≡ []
+init-word : (c : CallTree) (names : List (List ℕ)) (d : Domain) (l : Literals) → l.nots ≡ [] →
+    (with_element_call names d l (element_word section.Init c.word) c).nots ≡ []
 init-word c names d l none = by_test (bytes_eq c.word (codes "="))
   where
     by_test : (b : Bool) → (with_element_call names d l (if b then word.Equality else word.Fact) c).nots ≡ []
     by_test true = none
     by_test false = none
 
-init-element : (names : List (List ℕ)) (d : Domain) (l : Literals) (f : FormTree) → l.nots ≡ [] → (with_element names d section.Init l f).nots ≡ []
-init-element names d l (list (more_forms (symbol text t) rest) at) none = init-word (record { word = text; rest = rest; at = at }) names d l none
+init-element : (names : List (List ℕ)) (d : Domain) (l : Literals) (f : FormTree) → l.nots ≡ [] →
+    (with_element names d section.Init l f).nots ≡ []
+init-element names d l (list (more_forms (symbol text t) rest) at) none =
+    init-word (record { word = text; rest = rest; at = at }) names d l none
 init-element names d l f none = none
 
-init-elements : (names : List (List ℕ)) (d : Domain) (l : Literals) (fs : FormTrees) → l.nots ≡ [] → (with_elements names d section.Init l fs).nots ≡ []
+init-elements : (names : List (List ℕ)) (d : Domain) (l : Literals) (fs : FormTrees) → l.nots ≡ [] →
+    (with_elements names d section.Init l fs).nots ≡ []
 init-elements names d l no_form none = none
-init-elements names d l (more_forms f fs) none = init-elements names d (with_element names d section.Init l f) fs (init-element names d l f none)
+init-elements names d l (more_forms f fs) none = init-elements names d (with_element names d section.Init l f) fs
+    (init-element names d l f none)
 
 init-sections : (names : List (List ℕ)) (d : Domain) (fs : FormTrees) → (sections_meant names d fs).init.nots ≡ []
-init-sections names d (more_forms word (more_forms name (more_forms init (more_forms goal no_form)))) = init-elements names d no_literal (rest_of init) refl
+init-sections names d (more_forms word (more_forms name (more_forms init (more_forms goal no_form)))) =
+    init-elements names d no_literal (rest_of init) refl
 init-sections names d fs = refl
 
 init-form : (names : List (List ℕ)) (d : Domain) (f : FormTree) → (problem_form_meant names d f).init.nots ≡ []
@@ -53,15 +59,18 @@ init-file : (names : List (List ℕ)) (d : Domain) (forms : FormTrees) → (prob
 init-file names d no_form = refl
 init-file names d (more_forms f fs) = init-form names d f
 
-pub init-said : (names : List (List ℕ)) (d : Domain) (forms : FormTrees) (said : Sections) → said ≡ problem_file_meant names d forms → said.init.nots ≡ []
+pub init-said : (names : List (List ℕ)) (d : Domain) (forms : FormTrees) (said : Sections) → said ≡ problem_file_meant names d forms →
+    said.init.nots ≡ []
 init-said names d forms said is = ap (λ (s : Sections). s.init.nots) is ∙ init-file names d forms
 
 -- what the file says
-pub said-keeps : (names : List (List ℕ)) (d : Domain) (forms : FormTrees) (said : Sections) → problem_file_breaks names d forms ≡ [] → HaveNames names forms → said ≡ problem_file_meant names d forms → SectionsKeep (signature_of d) (length names) said
+pub said-keeps : (names : List (List ℕ)) (d : Domain) (forms : FormTrees) (said : Sections) → problem_file_breaks names d forms ≡ [] →
+    HaveNames names forms → said ≡ problem_file_meant names d forms → SectionsKeep (signature_of d) (length names) said
 said-keeps names d forms said none have is =
     subst (λ (s : Sections). SectionsKeep (signature_of d) (length names) s) (sym is) (problem-kept names d forms none have)
 
 -- the first break is the least
-pub least-read : (names : List (List ℕ)) (d : Domain) (forms : FormTrees) (e : FormFault) → IsFirst (problem_file_breaks names d forms) e → AreAsRead forms → IsLeastFault (problem_file_breaks names d forms) e
+pub least-read : (names : List (List ℕ)) (d : Domain) (forms : FormTrees) (e : FormFault) → IsFirst (problem_file_breaks names d forms) e →
+    AreAsRead forms → IsLeastFault (problem_file_breaks names d forms) e
 least-read names d forms (Breaks broken at) first read = first-break-least names d forms (broken, at) read first
 least-read names d forms NoMemory first read = tt

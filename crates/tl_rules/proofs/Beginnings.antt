@@ -13,7 +13,8 @@ pub begins-chain : (new names old : List (List ℕ)) → BeginsWith new names �
 begins-chain new names old p q = (q.0 ++ p.0, p.1 ∙ (ap (λ xs. xs ++ p.0) q.1 ∙ append_assoc old q.0 p.0))
 
 pub begins-text : (names old : List (List ℕ)) (text : List ℕ) → names ≡ with_text old text → BeginsWith names old
-begins-text names old text e = begins-chain names (with_text old text) old (begins-same names (with_text old text) e) (known (list_any (bytes_eq text) old))
+begins-text names old text e = begins-chain names (with_text old text) old (begins-same names (with_text old text) e)
+    (known (list_any (bytes_eq text) old))
   where
     known : (test : Bool) → BeginsWith (cond test old (old ++ text ∷ [])) old
     known true = begins-same old old refl

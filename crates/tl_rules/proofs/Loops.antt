@@ -6,7 +6,8 @@ use Rattle.tl_sexpr.specs.Tree.{no_form, more_forms, tree_of, trees_of_list}
 use Rattle.tl_rules.specs.Reads.{trees_in}
 
 -- the next form and those after it
-pub trees-next : (forms : List Form) (i : ℕ) (x : Form) → i < length forms → x ≡ get_or forms i x → trees_in (drop i forms) ≡ more_forms (tree_of x) (trees_in (drop (i + 1) forms))
+pub trees-next : (forms : List Form) (i : ℕ) (x : Form) → i < length forms → x ≡ get_or forms i x → trees_in (drop i forms) ≡
+    more_forms (tree_of x) (trees_in (drop (i + 1) forms))
 trees-next forms i x lt is = rw (add-one, drop-cons forms i x, ← is) refl
 
 -- at the end none is left

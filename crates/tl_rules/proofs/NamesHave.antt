@@ -30,14 +30,16 @@ any-last p (x ∷ xs) y h = or_right (p x) (list_any p (xs ++ y ∷ [])) (any-la
 text-grows : (names : List (List ℕ)) (text : List ℕ) → Grow names (with_text names text)
 text-grows names text = record { has = λ other h. by_test (list_any (bytes_eq text) names) other h }
   where
-    by_test : (known : Bool) (other : List ℕ) → list_any (bytes_eq other) names ≡ true → list_any (bytes_eq other) (cond known names (names ++ text ∷ [])) ≡ true
+    by_test : (known : Bool) (other : List ℕ) → list_any (bytes_eq other) names ≡ true →
+        list_any (bytes_eq other) (cond known names (names ++ text ∷ [])) ≡ true
     by_test true other h = h
     by_test false other h = any-before (bytes_eq other) names (text ∷ []) h
 
 text-has : (names : List (List ℕ)) (text : List ℕ) → list_any (bytes_eq text) (with_text names text) ≡ true
 text-has names text = by_test (list_any (bytes_eq text) names) refl
   where
-    by_test : (known : Bool) → list_any (bytes_eq text) names ≡ known → list_any (bytes_eq text) (cond known names (names ++ text ∷ [])) ≡ true
+    by_test : (known : Bool) → list_any (bytes_eq text) names ≡ known → list_any (bytes_eq text) (cond known names (names ++ text ∷ [])) ≡
+        true
     by_test true is = is
     by_test false is = any-last (bytes_eq text) names text ((bytes_eq-Decides text text).1 refl)
 
@@ -50,7 +52,10 @@ mutual
   -- names with the symbols of forms have all that they had
   pub forms-grow : (names : List (List ℕ)) (fs : FormTrees) → Grow names (names_with_all names fs)
   forms-grow names no_form = record { has = λ text h. h }
-  forms-grow names (more_forms f fs) = record { has = λ text h. (forms-grow (names_with names f) fs).has text ((form-grows names f).has text h) }
+  forms-grow names (more_forms f fs) = record {
+    has = λ text h. (forms-grow (names_with names f) fs).has text
+        ((form-grows names f).has text h);
+  }
 
 mutual
   form-keeps : (old new : List (List ℕ)) (f : FormTree) → Grow old new → HasNames old f → HasNames new f
@@ -72,7 +77,10 @@ mutual
   -- names with the symbols of forms have these symbols
   pub forms-have : (names : List (List ℕ)) (fs : FormTrees) → HaveNames (names_with_all names fs) fs
   forms-have names no_form = tt
-  forms-have names (more_forms f fs) = (form-keeps _ _ f (forms-grow (names_with names f) fs) (form-has names f), forms-have (names_with names f) fs)
+  forms-have names (more_forms f fs) = (
+    form-keeps _ _ f (forms-grow (names_with names f) fs) (form-has names f),
+    forms-have (names_with names f) fs,
+  )
 
 -- a name has a number below their count
 pub number-below : (names : List (List ℕ)) (text : List ℕ) → list_any (bytes_eq text) names ≡ true → number_in names text < length names

@@ -20,6 +20,7 @@ mutual
   length-names_with names (integer z at) = omega arith
   length-names_with names (list fs at) = length-names_with_all names fs
 
-  pub length-names_with_all : (names : List (List ℕ)) (forms : FormTrees) → length (names_with_all names forms) ≤ length names + symbols_in_all forms
+  pub length-names_with_all : (names : List (List ℕ)) (forms : FormTrees) →
+      length (names_with_all names forms) ≤ length names + symbols_in_all forms
   length-names_with_all names no_form = omega arith
   length-names_with_all names (more_forms f fs) = omega (arith, length-names_with names f, length-names_with_all (names_with names f) fs)

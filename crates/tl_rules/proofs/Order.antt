@@ -44,14 +44,17 @@ both low middle high bs cs h i = record { rise = rise-both low middle high bs cs
 pub none : (low high : ℕ) → low ≤ high → IsInOrder low [] high
 none low high le = record { rise = le }
 
-pub one : (broken : Rule) (at low high : ℕ) → low ≤ 64 * at + rule_number broken → 64 * at + rule_number broken ≤ high → IsInOrder low ((broken, at) ∷ []) high
+pub one : (broken : Rule) (at low high : ℕ) → low ≤ 64 * at + rule_number broken → 64 * at + rule_number broken ≤ high →
+    IsInOrder low ((broken, at) ∷ []) high
 one broken at low high before after = record { rise = (before, after) }
 
-pub tested : (test : Bool) (broken : Rule) (at low high : ℕ) → low ≤ 64 * at + rule_number broken → 64 * at + rule_number broken ≤ high → IsInOrder low (breaks_if test broken at) high
+pub tested : (test : Bool) (broken : Rule) (at low high : ℕ) → low ≤ 64 * at + rule_number broken → 64 * at + rule_number broken ≤ high →
+    IsInOrder low (breaks_if test broken at) high
 tested true broken at low high before after = one broken at low high before after
 tested false broken at low high before after = none low high (omega arith)
 
-pub either : (test : Bool) (low high : ℕ) (bs cs : List Break) → IsInOrder low bs high → IsInOrder low cs high → IsInOrder low (if test then bs else cs) high
+pub either : (test : Bool) (low high : ℕ) (bs cs : List Break) → IsInOrder low bs high → IsInOrder low cs high →
+    IsInOrder low (if test then bs else cs) high
 either true low high bs cs h i = h
 either false low high bs cs h i = i
 

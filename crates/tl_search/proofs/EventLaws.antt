@@ -1,5 +1,6 @@
 -- What true events say of kept pairs, and of pruned branches.
-use Rattle.std.proofs.Common.{◌≡◌, ◌≢◌, ◌≤◌, ◌<◌, ℕ, suc, List, [], ◌∷◌, ◌++◌, length, slice_get, Some, refl, sym, ap, ◌∙◌, subst, arith, inl, inr}
+use Rattle.std.proofs.Common.{◌≡◌, ◌≢◌, ◌≤◌, ◌<◌, ℕ, suc, List, [], ◌∷◌, ◌++◌, length, slice_get, Some, refl, sym, ap, ◌∙◌, subst, arith}
+use Rattle.std.proofs.Common.{inl, inr}
 use Rattle.std.proofs.lemmas.Option.{slice_get_within}
 use native.Mathlib.Decide.{dec_lt}
 use Rattle.tl_syntax.specs.declared.action.Action.{Action}
@@ -26,12 +27,14 @@ use Rattle.tl_search.specs.TrueEvents.{IsTrueEvent, AreTrueEvents}
 use Rattle.tl_search.specs.PrunedRightly.{IsPrunedRightly, ArePrunedRightly}
 
 -- events are added at the end
-pub events-snoc : (p : PlainProblem) (old : List KeptPair) (es : List Event) (mid : List KeptPair) (e : Event) (new : List KeptPair) → AreTrueEvents p old es mid → IsTrueEvent p mid e new → AreTrueEvents p old (es ++ e ∷ []) new
+pub events-snoc : (p : PlainProblem) (old : List KeptPair) (es : List Event) (mid : List KeptPair) (e : Event) (new : List KeptPair) →
+    AreTrueEvents p old es mid → IsTrueEvent p mid e new → AreTrueEvents p old (es ++ e ∷ []) new
 events-snoc p old [] mid e new h t = (new, subst (λ xs. IsTrueEvent p xs e new) (sym h) t, refl)
 events-snoc p old (f ∷ es) mid e new h t = (h.0, h.1, events-snoc p h.0 es mid e new h.2 t)
 
 -- the pair that is kept last differs from those before it
-pub last-differs : (p : PlainProblem) (old new : List KeptPair) (y : KeptPair) → AreKept (pair_graph p) new → new ≡ old ++ y ∷ [] → (i : ℕ) (z : KeptPair) → slice_get old i ≡ Some z → z.node ≢ y.node
+pub last-differs : (p : PlainProblem) (old new : List KeptPair) (y : KeptPair) → AreKept (pair_graph p) new → new ≡ old ++ y ∷ [] →
+    (i : ℕ) (z : KeptPair) → slice_get old i ≡ Some z → z.node ≢ y.node
 last-differs p old new y all is i z e same =
     let now : slice_get new i ≡ Some z = subst (λ xs. slice_get xs i ≡ Some z) (sym is) (get-old old (y ∷ []) i z e) in
     let last : slice_get new (length old) ≡ Some y = subst (λ xs. slice_get xs (length old) ≡ Some y) (sym is) (get-new old y) in
@@ -41,21 +44,36 @@ last-differs p old new y all is i z e same =
 
 -- the event of an arrival after an action is true
 module _ (p : PlainProblem) (old new : List KeptPair) (at : ℕ) (pair : KeptPair) (is_pair : slice_get old at ≡ Some pair) (a : Action) where
-  pub arrives-truly : AreKept (pair_graph p) new → (r : Arrival) → Arrives old new (next_pair p pair.node a) (pair.path ++ a ∷ []) r → IsTrueEvent p old (event_of at a r) new
+  pub arrives-truly : AreKept (pair_graph p) new → (r : Arrival) → Arrives old new (next_pair p pair.node a) (pair.path ++ a ∷ []) r →
+      IsTrueEvent p old (event_of at a r) new
   arrives-truly all arrival.Pruned h = (pair, h.1.0, is_pair, h.1.1, h.1.2, h.0)
   arrives-truly all (arrival.Seen k) h = (pair, h.1.0, is_pair, h.1.2, h.1.1, h.0)
-  arrives-truly all (arrival.Fresh k) h = (pair, h.1.0, is_pair, h.1.1, h.1.2, last-differs p old new (record { node = h.1.0; path = pair.path ++ a ∷ [] }) all h.1.3, h.0, h.1.3)
+  arrives-truly all (arrival.Fresh k) h = (
+    pair,
+    h.1.0,
+    is_pair,
+    h.1.1,
+    h.1.2,
+    last-differs p old new (record { node = h.1.0; path = pair.path ++ a ∷ [] }) all h.1.3,
+    h.0,
+    h.1.3,
+  )
 
 -- ---- pruned branches
 
-event-grows : (p : PlainProblem) (old : List KeptPair) (e : Event) (new : List KeptPair) → IsTrueEvent p old e new → (i : ℕ) (x : KeptPair) → slice_get old i ≡ Some x → slice_get new i ≡ Some x
-event-grows p old event.RootKept new t i x e = let f : slice_get [] i ≡ Some x = subst (λ xs. slice_get xs i ≡ Some x) t.3 e in let b : ⊥ = cc in absurd b
-event-grows p old event.RootPruned new t i x e = let f : slice_get [] i ≡ Some x = subst (λ xs. slice_get xs i ≡ Some x) t.3 e in let b : ⊥ = cc in absurd b
-event-grows p old (event.Kept j a k) new t i x e = subst (λ xs. slice_get xs i ≡ Some x) (sym t.7) (get-old old (record { node = t.1; path = t.0.path ++ a ∷ [] } ∷ []) i x e)
+event-grows : (p : PlainProblem) (old : List KeptPair) (e : Event) (new : List KeptPair) → IsTrueEvent p old e new →
+    (i : ℕ) (x : KeptPair) → slice_get old i ≡ Some x → slice_get new i ≡ Some x
+event-grows p old event.RootKept new t i x e = let f : slice_get [] i ≡ Some x = subst (λ xs. slice_get xs i ≡ Some x) t.3 e in let b : ⊥ =
+    cc in absurd b
+event-grows p old event.RootPruned new t i x e = let f : slice_get [] i ≡ Some x = subst (λ xs. slice_get xs i ≡ Some x) t.3 e in
+    let b : ⊥ = cc in absurd b
+event-grows p old (event.Kept j a k) new t i x e = subst (λ xs. slice_get xs i ≡ Some x) (sym t.7)
+    (get-old old (record { node = t.1; path = t.0.path ++ a ∷ [] } ∷ []) i x e)
 event-grows p old (event.Seen j a k) new t i x e = subst (λ xs. slice_get xs i ≡ Some x) (sym t.5) e
 event-grows p old (event.Pruned j a) new t i x e = subst (λ xs. slice_get xs i ≡ Some x) (sym t.5) e
 
-events-grow : (p : PlainProblem) (old : List KeptPair) (es : List Event) (new : List KeptPair) → AreTrueEvents p old es new → (i : ℕ) (x : KeptPair) → slice_get old i ≡ Some x → slice_get new i ≡ Some x
+events-grow : (p : PlainProblem) (old : List KeptPair) (es : List Event) (new : List KeptPair) → AreTrueEvents p old es new →
+    (i : ℕ) (x : KeptPair) → slice_get old i ≡ Some x → slice_get new i ≡ Some x
 events-grow p old [] new t i x e = subst (λ xs. slice_get xs i ≡ Some x) t e
 events-grow p old (f ∷ es) new t i x e = events-grow p t.0 es new t.2 i x (event-grows p old f t.0 t.1 i x e)
 
@@ -63,10 +81,17 @@ pruned-branch : (p : PlainProblem) (path : List Action) (y : Pair) → pair_of p
 pruned-branch p path y e f =
     let t = has-states p path y e in
     let g : residual p (t.from ∷ t.after) p.control ≡ falsum = sym t.formula ∙ f in
-    record { worlds = t.from ∷ t.after; executes = t.executes; false_residual = g; begins_none = λ s b h. pruned-right p s (t.from ∷ t.after) p.control g b h }
+    record {
+      worlds = t.from ∷ t.after;
+      executes = t.executes;
+      false_residual = g;
+      begins_none = λ s b h.
+          pruned-right p s (t.from ∷ t.after) p.control g b h;
+    }
 
 -- branches that true events tell to be pruned are so rightly
-pub events-prune-rightly : (p : PlainProblem) (old : List KeptPair) (es : List Event) (new : List KeptPair) → AreTrueEvents p old es new → ArePrunedRightly p new es
+pub events-prune-rightly : (p : PlainProblem) (old : List KeptPair) (es : List Event) (new : List KeptPair) → AreTrueEvents p old es new →
+    ArePrunedRightly p new es
 events-prune-rightly p old [] new t j a x path m e q = absurd m
 events-prune-rightly p old (f ∷ es) new t j a x path m e q = elim m [
   | inl same ↦ here (subst (λ g. IsTrueEvent p old g t.0) same t.1)
@@ -82,7 +107,8 @@ events-prune-rightly p old (f ∷ es) new t j a x path m e q = elim m [
 -- ---- the event that keeps a pair
 
 -- the event that brought one pair more keeps that pair
-event-keeps : (p : PlainProblem) (old : List KeptPair) (e : Event) (new : List KeptPair) (k : ℕ) → IsTrueEvent p old e new → length old ≤ k → k < length new → kept_number e ≡ Some k
+event-keeps : (p : PlainProblem) (old : List KeptPair) (e : Event) (new : List KeptPair) (k : ℕ) → IsTrueEvent p old e new →
+    length old ≤ k → k < length new → kept_number e ≡ Some k
 event-keeps p old event.RootKept new k t h l = let n : length new ≡ 1 = ap length t.4 in ap (λ i. Some i) (let q : 0 ≡ k = omega arith in q)
 event-keeps p old event.RootPruned new k t h l = let n : length new ≡ 0 = ap length t.4 in let b : ⊥ = omega arith in absurd b
 event-keeps p old (event.Kept j a i) new k t h l =
@@ -93,7 +119,8 @@ event-keeps p old (event.Seen j a i) new k t h l = let n : length new ≡ length
 event-keeps p old (event.Pruned j a) new k t h l = let n : length new ≡ length old = ap length t.5 in let b : ⊥ = omega arith in absurd b
 
 -- each pair that is kept between two lists has the event that kept it
-events-keep : (p : PlainProblem) (old : List KeptPair) (es : List Event) (new : List KeptPair) (k : ℕ) → length old ≤ k → k < length new → AreTrueEvents p old es new → IsKeptByEvent es k
+events-keep : (p : PlainProblem) (old : List KeptPair) (es : List Event) (new : List KeptPair) (k : ℕ) → length old ≤ k → k < length new →
+    AreTrueEvents p old es new → IsKeptByEvent es k
 events-keep p old [] new k h l t = let n : length old ≡ length new = ap length t in let b : ⊥ = omega arith in absurd b
 events-keep p old (e ∷ es) new k h l t = elim (dec_lt k (length t.0)) [
   | yes s ↦ record { front = []; keeps = e; rest = es; splits = refl; number = event-keeps p old e t.0 k t.1 h s; unseen = λ j a m. m }
@@ -116,5 +143,6 @@ events-keep p old (e ∷ es) new k h l t = elim (dec_lt k (length t.0)) [
       unseen = λ j a m. elim m [ inl q ↦ is_seen j a q | inr m ↦ r.unseen j a m ];
     }
 
-pub kept-by-event : (p : PlainProblem) (events : List Event) (kept : List KeptPair) (k : ℕ) → k < length kept → AreTrueEvents p [] events kept → IsKeptByEvent events k
+pub kept-by-event : (p : PlainProblem) (events : List Event) (kept : List KeptPair) (k : ℕ) → k < length kept →
+    AreTrueEvents p [] events kept → IsKeptByEvent events k
 kept-by-event p events kept k l t = events-keep p [] events kept k (omega arith) l t

@@ -21,9 +21,14 @@ use Rattle.tl_search.proofs.WalkLaws.{length-snoc}
 use Rattle.tl_search.proofs.EventLaws.{events-snoc, arrives-truly, events-prune-rightly}
 
 -- the root is kept
-pub history-kept : (p : PlainProblem) (watch : Bool) (old new : List KeptPair) (k : ℕ) (later : List Event) → old ≡ [] → Arrives old new (pair_of p []) [] (arrival.Fresh k) → later ≡ events_after watch [] event.RootKept → IsHistory p watch new later
+pub history-kept : (p : PlainProblem) (watch : Bool) (old new : List KeptPair) (k : ℕ) (later : List Event) → old ≡ [] →
+    Arrives old new (pair_of p []) [] (arrival.Fresh k) → later ≡ events_after watch [] event.RootKept → IsHistory p watch new later
 history-kept p watch old new k later e h l = record {
-  told = λ w. subst (λ es. AreTrueEvents p [] es new) (sym (is w)) (new, (h.1.0, h.1.1, h.1.2, refl, h.1.3 ∙ ap (λ xs. xs ++ record { node = h.1.0; path = [] } ∷ []) e), refl);
+  told = λ w. subst (λ es. AreTrueEvents p [] es new) (sym (is w)) (
+    new,
+    (h.1.0, h.1.1, h.1.2, refl, h.1.3 ∙ ap (λ xs. xs ++ record { node = h.1.0; path = [] } ∷ []) e),
+    refl,
+  );
   some = λ w. subst (λ es. 0 < length es) (sym (is w)) (omega arith);
   silent = λ w. l ∙ ap (λ b. events_after b [] event.RootKept) w;
 }
@@ -32,7 +37,8 @@ history-kept p watch old new k later e h l = record {
     is w = l ∙ ap (λ b. events_after b [] event.RootKept) w
 
 -- the root is pruned
-pub history-pruned : (p : PlainProblem) (watch : Bool) (old new : List KeptPair) (later : List Event) → old ≡ [] → Arrives old new (pair_of p []) [] arrival.Pruned → later ≡ events_after watch [] event.RootPruned → IsHistory p watch new later
+pub history-pruned : (p : PlainProblem) (watch : Bool) (old new : List KeptPair) (later : List Event) → old ≡ [] →
+    Arrives old new (pair_of p []) [] arrival.Pruned → later ≡ events_after watch [] event.RootPruned → IsHistory p watch new later
 history-pruned p watch old new later e h l = record {
   told = λ w. subst (λ es. AreTrueEvents p [] es new) (sym (is w)) ([], (h.1.0, h.1.1, h.1.2, refl, refl), sym (h.0 ∙ e));
   some = λ w. subst (λ es. 0 < length es) (sym (is w)) (omega arith);
@@ -43,9 +49,13 @@ history-pruned p watch old new later e h l = record {
     is w = l ∙ ap (λ b. events_after b [] event.RootPruned) w
 
 -- an action of a kept pair is tried
-pub history-more : (p : PlainProblem) (watch : Bool) (old new : List KeptPair) (at : ℕ) (pair : KeptPair) (a : Action) (r : Arrival) (events later : List Event) → IsHistory p watch old events → slice_get old at ≡ Some pair → Arrives old new (next_pair p pair.node a) (pair.path ++ a ∷ []) r → AreKept (pair_graph p) new → later ≡ events_after watch events (event_of at a r) → IsHistory p watch new later
+pub history-more : (p : PlainProblem) (watch : Bool) (old new : List KeptPair) (at : ℕ) (pair : KeptPair) (a : Action) (r : Arrival)
+    (events later : List Event) → IsHistory p watch old events → slice_get old at ≡ Some pair →
+    Arrives old new (next_pair p pair.node a) (pair.path ++ a ∷ []) r → AreKept (pair_graph p) new → later ≡
+    events_after watch events (event_of at a r) → IsHistory p watch new later
 history-more p watch old new at pair a r events later s is_pair h kept l = record {
-  told = λ w. subst (λ es. AreTrueEvents p [] es new) (sym (is w)) (events-snoc p [] events old (event_of at a r) new (s.told w) (arrives-truly p old new at pair is_pair a kept r h));
+  told = λ w. subst (λ es. AreTrueEvents p [] es new) (sym (is w)) (events-snoc p [] events old (event_of at a r) new (s.told w)
+      (arrives-truly p old new at pair is_pair a kept r h));
   some = λ w. omega (arith, ap length (is w), length-snoc events (event_of at a r));
   silent = λ w. l ∙ (ap (λ b. events_after b events (event_of at a r)) w ∙ s.silent w);
 }
@@ -54,24 +64,46 @@ history-more p watch old new at pair a r events later s is_pair h kept l = recor
     is w = l ∙ ap (λ b. events_after b events (event_of at a r)) w
 
 -- the first event is the root's
-pub events-begin : (p : PlainProblem) (events : List Event) (kept : List KeptPair) → 0 < length events → AreTrueEvents p [] events kept → BeginsAtRoot p events
+pub events-begin : (p : PlainProblem) (events : List Event) (kept : List KeptPair) → 0 < length events → AreTrueEvents p [] events kept →
+    BeginsAtRoot p events
 events-begin p [] kept l t = absurd (omega arith)
-events-begin p (event.RootKept ∷ rest) kept l t = record { root = t.1.0; is_root = t.1.1; first = event.RootKept; rest = rest; begins = refl; kept = λ f. refl; pruned = λ f. absurd (t.1.2 f) }
-events-begin p (event.RootPruned ∷ rest) kept l t = record { root = t.1.0; is_root = t.1.1; first = event.RootPruned; rest = rest; begins = refl; kept = λ f. absurd (f t.1.2); pruned = λ f. refl }
+events-begin p (event.RootKept ∷ rest) kept l t = record {
+  root = t.1.0;
+  is_root = t.1.1;
+  first = event.RootKept;
+  rest = rest;
+  begins =
+      refl;
+  kept = λ f. refl;
+  pruned = λ f. absurd (t.1.2 f);
+}
+events-begin p (event.RootPruned ∷ rest) kept l t = record {
+  root = t.1.0;
+  is_root = t.1.1;
+  first = event.RootPruned;
+  rest = rest;
+  begins =
+      refl;
+  kept = λ f. absurd (f t.1.2);
+  pruned = λ f. refl;
+}
 events-begin p (event.Kept j a k ∷ rest) kept l t = absurd (let q : slice_get [] j ≡ Some t.1.0 = t.1.2 in let b : ⊥ = cc in b)
 events-begin p (event.Seen j a k ∷ rest) kept l t = absurd (let q : slice_get [] j ≡ Some t.1.0 = t.1.2 in let b : ⊥ = cc in b)
 events-begin p (event.Pruned j a ∷ rest) kept l t = absurd (let q : slice_get [] j ≡ Some t.1.0 = t.1.2 in let b : ⊥ = cc in b)
 
-pub history-begins : (p : PlainProblem) (watch : Bool) (kept : List KeptPair) (events : List Event) → IsHistory p watch kept events → watch ≡ true → BeginsAtRoot p events
+pub history-begins : (p : PlainProblem) (watch : Bool) (kept : List KeptPair) (events : List Event) → IsHistory p watch kept events →
+    watch ≡ true → BeginsAtRoot p events
 history-begins p watch kept events s w = events-begin p events kept (s.some w) (s.told w)
 
 -- the branches that are told to be pruned are so rightly
-pub history-prunes-rightly : (p : PlainProblem) (watch : Bool) (kept : List KeptPair) (events : List Event) → IsHistory p watch kept events → watch ≡ true → ArePrunedRightly p kept events
+pub history-prunes-rightly : (p : PlainProblem) (watch : Bool) (kept : List KeptPair) (events : List Event) →
+    IsHistory p watch kept events → watch ≡ true → ArePrunedRightly p kept events
 history-prunes-rightly p watch kept events s w = events-prune-rightly p [] events kept (s.told w)
 
 -- ---- the last event
 
-pub ends-by-keeping : (watch : Bool) (old kept : List KeptPair) (events later : List Event) (at : ℕ) (a : Action) (k : ℕ) (y : KeptPair) → k ≡ length old → kept ≡ old ++ y ∷ [] → later ≡ events_after watch events (event.Kept at a k) → watch ≡ true → EndsByKeeping kept later
+pub ends-by-keeping : (watch : Bool) (old kept : List KeptPair) (events later : List Event) (at : ℕ) (a : Action) (k : ℕ) (y : KeptPair) →
+    k ≡ length old → kept ≡ old ++ y ∷ [] → later ≡ events_after watch events (event.Kept at a k) → watch ≡ true → EndsByKeeping kept later
 ends-by-keeping watch old kept events later at a k y e f l w = record {
   front = events;
   last = event.Kept at a k;
@@ -81,7 +113,9 @@ ends-by-keeping watch old kept events later at a k y e f l w = record {
   is_last = ap length f ∙ (length-snoc old y ∙ (let q : suc (length old) ≡ k + 1 = omega (arith, e) in q));
 }
 
-pub ends-at-root : (p : PlainProblem) (watch : Bool) (old kept : List KeptPair) (k : ℕ) (later : List Event) → old ≡ [] → Arrives old kept (pair_of p []) [] (arrival.Fresh k) → later ≡ events_after watch [] event.RootKept → watch ≡ true → EndsByKeeping kept later
+pub ends-at-root : (p : PlainProblem) (watch : Bool) (old kept : List KeptPair) (k : ℕ) (later : List Event) → old ≡ [] →
+    Arrives old kept (pair_of p []) [] (arrival.Fresh k) → later ≡ events_after watch [] event.RootKept → watch ≡ true →
+    EndsByKeeping kept later
 ends-at-root p watch old kept k later e h l w = record {
   front = [];
   last = event.RootKept;

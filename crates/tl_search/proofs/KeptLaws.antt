@@ -7,10 +7,12 @@ use Rattle.tl_terms.specs.Pairs.{Pair}
 use Rattle.tl_search.specs.KeptPairs.{KeptPair, pairs_of}
 
 -- the pairs of the list are those of the kept
-pub pair-kept : (kept : List KeptPair) (i : ℕ) (x : Pair) → slice_get (pairs_of kept) i ≡ Some x → (y : KeptPair) × (slice_get kept i ≡ Some y) × (y.node ≡ x)
+pub pair-kept : (kept : List KeptPair) (i : ℕ) (x : Pair) → slice_get (pairs_of kept) i ≡ Some x → (y : KeptPair) ×
+    (slice_get kept i ≡ Some y) × (y.node ≡ x)
 pair-kept kept i x e = by_get (slice_get kept i) refl (sym (slice_get-map (λ (y : KeptPair). y.node) kept i) ∙ e)
   where
-    by_get : (o : Option KeptPair) → slice_get kept i ≡ o → option_map (λ (y : KeptPair). y.node) o ≡ Some x → (y : KeptPair) × (slice_get kept i ≡ Some y) × (y.node ≡ x)
+    by_get : (o : Option KeptPair) → slice_get kept i ≡ o → option_map (λ (y : KeptPair). y.node) o ≡ Some x → (y : KeptPair) ×
+        (slice_get kept i ≡ Some y) × (y.node ≡ x)
     by_get None q h = let b : ⊥ = cc in absurd b
     by_get (Some y) q h = (y, q, let d : y.node ≡ x = cc in d)
 

@@ -16,10 +16,13 @@ event-named task at a (arrival.Seen k) h = h
 event-named task at a (arrival.Fresh k) h = h
 
 -- one more event, where events are watched
-pub events-named : (task : Task) (watch : Bool) (events later : List Event) (e : Event) → EventsAreNamed task events → EventIsNamed task e → later ≡ events_after watch events e → EventsAreNamed task later
-events-named task true events later e h k is = subst (EventsAreNamed task) (sym is) ((Each-append (EventIsNamed task) events (e ∷ [])).1 (h, (k, tt)))
+pub events-named : (task : Task) (watch : Bool) (events later : List Event) (e : Event) → EventsAreNamed task events → EventIsNamed task e →
+    later ≡ events_after watch events e → EventsAreNamed task later
+events-named task true events later e h k is = subst (EventsAreNamed task) (sym is)
+    ((Each-append (EventIsNamed task) events (e ∷ [])).1 (h, (k, tt)))
 events-named task false events later e h k is = subst (EventsAreNamed task) (sym is) h
 
 -- one more action
-pub path-named : (task : Task) (path : List Action) (a : Action) → AreNamedIn task path → IsNamedIn task a → AreNamedIn task (path ++ a ∷ [])
+pub path-named : (task : Task) (path : List Action) (a : Action) → AreNamedIn task path → IsNamedIn task a →
+    AreNamedIn task (path ++ a ∷ [])
 path-named task path a h k = (Each-append (IsNamedIn task) path (a ∷ [])).1 (h, (k, tt))

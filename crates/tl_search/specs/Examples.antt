@@ -1,5 +1,7 @@
 -- Worked examples of a distance, a leading path and a calm search.
-use Rattle.std.proofs.Common.{◌≡◌, ◌≢◌, ◌≤◌, ◌^◌, ◌-◌, ℕ, suc, List, [], ◌∷◌, ◌++◌, ◌==◌, ◌⊎◌, inl, inr, length, Bool, true, false, cond, true≢false, Some, IsSome, is_some, Ordering, Less, Equal, Greater, refl, sym, ap, ap₂, ◌∙◌, subst, arith as numbers}
+use Rattle.std.proofs.Common.{◌≡◌, ◌≢◌, ◌≤◌, ◌^◌, ◌-◌, ℕ, suc, List, [], ◌∷◌, ◌++◌, ◌==◌, ◌⊎◌, inl, inr, length, Bool, true, false, cond}
+use Rattle.std.proofs.Common.{true≢false, Some, IsSome, is_some, Ordering, Less, Equal, Greater, refl, sym, ap, ap₂, ◌∙◌, subst}
+use Rattle.std.proofs.Common.{arith as numbers}
 use Rattle.std.specs.Prelude.{pos}
 use Rattle.std.specs.FinSet as set
 use Rattle.std.specs.Cmp.Lexicographic.{slice_cmp}
@@ -19,7 +21,8 @@ use Rattle.tl_terms.specs.Acceptance.{states_from, states, last_of, IsAccepted}
 use Rattle.tl_terms.specs.Calm.{NonePastRange, IsCalm, IsCalmAfter}
 use Rattle.tl_terms.specs.Definitions.{situation_of}
 use Rattle.tl_terms.specs.Examples.{world, nothing, integer, has_fact-world}
-use Rattle.tl_terms.specs.Looked.{looked_in_term, looked_in_state, looked_in_basics, looked_by_progressing, looked_by_idling, looked_by_action}
+use Rattle.tl_terms.specs.Looked.{looked_in_term, looked_in_state, looked_in_basics, looked_by_progressing, looked_by_idling}
+use Rattle.tl_terms.specs.Looked.{looked_by_action}
 use Rattle.tl_terms.specs.Orders.{plan_cmp}
 use Rattle.tl_terms.specs.Pairs.{residual, Pair, pair_of, IsOpen}
 use Rattle.tl_terms.specs.Paths.{IsDistance, IsSimple, IsLeading}
@@ -78,7 +81,8 @@ after_press = refl
 -- the two worlds differ
 different : nothing ≢ lit
 unfolding changed
-different e = true≢false (sym (set.contains-insert key_total (set.from_list []) (0, []) (0, [])) ∙ (ap (λ w. has_fact w (0, [])) (sym e) ∙ has_fact-world [] [] (0, [])))
+different e = true≢false (sym (set.contains-insert key_total (set.from_list []) (0, []) (0, [])) ∙
+    (ap (λ w. has_fact w (0, [])) (sym e) ∙ has_fact-world [] [] (0, [])))
 
 -- so the two pairs do
 pairs_differ : pair_of button [] ≡ pair_of button (press ∷ []) → ⊥
@@ -118,8 +122,16 @@ press_is_simple : IsSimple button (press ∷ [])
 press_is_simple = record {
   executes = ap is_some after_press;
   differ = λ f r o l e q d. elim (prefixes f r e) [
-    | inl x ↦ elim (prefixes o l q) [ inl y ↦ x ∙ sym y | inr y ↦ absurd (pairs_differ (ap (pair_of button) (sym x) ∙ (d ∙ ap (pair_of button) y))) ]
-    | inr x ↦ elim (prefixes o l q) [ inl y ↦ absurd (pairs_differ (ap (pair_of button) (sym y) ∙ (sym d ∙ ap (pair_of button) x))) | inr y ↦ x ∙ sym y ]
+    | inl x ↦ elim (prefixes o l q) [
+      | inl y ↦ x ∙ sym y
+      | inr y ↦ absurd
+          (pairs_differ (ap (pair_of button) (sym x) ∙ (d ∙ ap (pair_of button) y)))
+    ]
+    | inr x ↦ elim (prefixes o l q) [
+      | inl y ↦ absurd (pairs_differ (ap (pair_of button) (sym y) ∙ (sym d ∙ ap (pair_of button) x)))
+      | inr
+          y ↦ x ∙ sym y
+    ]
   ];
 }
 
@@ -143,7 +155,8 @@ not_before a other e = by_op (nat_cmp a.op 0) refl e
     by_args [] q = by_rest other q
     by_args (v ∷ vs) q = cc
 
-    by_op : (r : Ordering) → nat_cmp a.op 0 ≡ r → ordering_then (ordering_then r (slice_cmp value_cmp a.args [])) (plan_cmp other []) ≡ Less → ⊥
+    by_op : (r : Ordering) → nat_cmp a.op 0 ≡ r → ordering_then (ordering_then r (slice_cmp value_cmp a.args [])) (plan_cmp other []) ≡
+        Less → ⊥
     by_op Less f q = not_below_zero a.op f
     by_op Equal f q = by_args a.args q
     by_op Greater f q = cc
@@ -187,7 +200,9 @@ only_empty f [] h = refl
 only_empty f (a ∷ path) h = absurd (true≢false (sym h))
 
 -- where nothing past range is looked at in the first world, the search is calm
-calm_by_first : (f : FormulaTree) → NonePastRange (looked_by_progressing (still f) nothing f) → NonePastRange (looked_by_idling (still f) nothing (progressed (situation_of (still f) nothing) no_values f)) → (n : ℕ) → IsCalm (still f) n
+calm_by_first : (f : FormulaTree) → NonePastRange (looked_by_progressing (still f) nothing f) →
+    NonePastRange (looked_by_idling (still f) nothing (progressed (situation_of (still f) nothing) no_values f)) → (n : ℕ) →
+    IsCalm (still f) n
 unfolding states_from residual looked_by_action
 calm_by_first f g i n path from after r e =
     let empty : path ≡ [] = only_empty f path r.executes in

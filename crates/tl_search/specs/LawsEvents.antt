@@ -13,11 +13,13 @@ use Rattle.tl_search.specs.declared.event.Event.TheVariants as event
 
 -- the first of true events is the root's
 abbrev pub EventsBeginAtRoot : Type 0
-EventsBeginAtRoot = (p : PlainProblem) (events : List Event) (kept : List KeptPair) → 0 < length events → AreTrueEvents p [] events kept → BeginsAtRoot p events
+EventsBeginAtRoot = (p : PlainProblem) (events : List Event) (kept : List KeptPair) → 0 < length events → AreTrueEvents p [] events kept →
+    BeginsAtRoot p events
 
 -- branches that true events tell to be pruned are so rightly
 abbrev pub EventsPruneRightly : Type 0
-EventsPruneRightly = (p : PlainProblem) (events : List Event) (kept : List KeptPair) → AreTrueEvents p [] events kept → ArePrunedRightly p kept events
+EventsPruneRightly = (p : PlainProblem) (events : List Event) (kept : List KeptPair) → AreTrueEvents p [] events kept →
+    ArePrunedRightly p kept events
 
 -- the event that keeps a pair comes before each event that names it as seen
 pub record IsKeptByEvent (events : List Event) (k : ℕ) : Type 0 where
@@ -30,4 +32,5 @@ pub record IsKeptByEvent (events : List Event) (k : ℕ) : Type 0 where
 
 -- each kept pair has its event
 abbrev pub KeptPairsHaveEvents : Type 0
-KeptPairsHaveEvents = (p : PlainProblem) (events : List Event) (kept : List KeptPair) (k : ℕ) → k < length kept → AreTrueEvents p [] events kept → IsKeptByEvent events k
+KeptPairsHaveEvents = (p : PlainProblem) (events : List Event) (kept : List KeptPair) (k : ℕ) → k < length kept →
+    AreTrueEvents p [] events kept → IsKeptByEvent events k

@@ -12,11 +12,13 @@ use Rattle.tl_search.specs.PairGraph.{next_pair, pair_graph}
 
 -- the pair of a path with one more action is the pair after that action
 abbrev pub PairGoesOn : Type 0
-PairGoesOn = (p : PlainProblem) (path : List Action) (a : Action) → pair_of p (path ++ a ∷ []) ≡ option_and_then (λ x. next_pair p x a) (pair_of p path)
+PairGoesOn = (p : PlainProblem) (path : List Action) (a : Action) → pair_of p (path ++ a ∷ []) ≡
+    option_and_then (λ x. next_pair p x a) (pair_of p path)
 
 -- a walk leads to a pair exactly where it is a path with that pair, whose formula is not FALSE
 abbrev pub WalksHavePairs : Type 0
-WalksHavePairs = (p : PlainProblem) (path : List Action) (x : Pair) → (walk (pair_graph p) path ≡ Some x) ↔ ((pair_of p path ≡ Some x) × (x.formula ≢ falsum))
+WalksHavePairs = (p : PlainProblem) (path : List Action) (x : Pair) → (walk (pair_graph p) path ≡ Some x) ↔
+    ((pair_of p path ≡ Some x) × (x.formula ≢ falsum))
 
 -- the open paths are the walks
 abbrev pub OpenPathsAreWalks : Type 0
@@ -24,7 +26,8 @@ OpenPathsAreWalks = (p : PlainProblem) (path : List Action) → IsOpen p path �
 
 -- the accepted plans are the walks to accepted pairs
 abbrev pub AcceptedPlansAreWalks : Type 0
-AcceptedPlansAreWalks = (p : PlainProblem) (plan : List Action) → IsAccepted p plan ↔ ((x : Pair) × (walk (pair_graph p) plan ≡ Some x) × IsPairAccepted p x)
+AcceptedPlansAreWalks = (p : PlainProblem) (plan : List Action) → IsAccepted p plan ↔
+    ((x : Pair) × (walk (pair_graph p) plan ≡ Some x) × IsPairAccepted p x)
 
 -- each prefix of an open path is open, and so is each prefix of an accepted plan
 pub record PrefixesAreOpen : Type 0 where

@@ -15,9 +15,13 @@ use Rattle.tl_search.specs.RangeCauses.{IsRangeCause}
 -- progressing after that action looks at, is the cause of a fault
 pub record LooksAreCauses (p : PlainProblem) (n : ℕ) (o : Operation) : Type 0 where
   pub at_root : Among o (looked_by_progressing p p.first p.control) → IsRangeCause p n [] o
-  pub by_idling : (path : List Action) (x : Pair) → pair_of p path ≡ Some x → IsOpen p path → length path ≤ n → Among o (looked_by_idling p x.world x.formula) → IsRangeCause p n path o
-  pub by_action : (path : List Action) (x : Pair) → pair_of p path ≡ Some x → IsOpen p path → length path < n → (a : Action) → Among o (looked_by_action p x.world a) → IsRangeCause p n path o
-  pub after_action : (path : List Action) (x : Pair) → pair_of p path ≡ Some x → IsOpen p path → length path < n → (a : Action) (w : World) → step p x.world a ≡ Some w → Among o (looked_by_progressing p w x.formula) → IsRangeCause p n (path ++ a ∷ []) o
+  pub by_idling : (path : List Action) (x : Pair) → pair_of p path ≡ Some x → IsOpen p path → length path ≤ n →
+      Among o (looked_by_idling p x.world x.formula) → IsRangeCause p n path o
+  pub by_action : (path : List Action) (x : Pair) → pair_of p path ≡ Some x → IsOpen p path → length path < n → (a : Action) →
+      Among o (looked_by_action p x.world a) → IsRangeCause p n path o
+  pub after_action : (path : List Action) (x : Pair) → pair_of p path ≡ Some x → IsOpen p path → length path < n →
+      (a : Action) (w : World) → step p x.world a ≡ Some w → Among o (looked_by_progressing p w x.formula) →
+      IsRangeCause p n (path ++ a ∷ []) o
 
 -- an operation past range that a search looks at is the cause of a fault
 abbrev pub LookedIsCause : Type 0

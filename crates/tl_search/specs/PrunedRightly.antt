@@ -23,4 +23,5 @@ pub record IsPrunedRightly (p : PlainProblem) (path : List Action) : Type 0 wher
 -- each branch that an event tells to be pruned is so rightly: any path with the pair of that
 -- number, followed by the action
 abbrev pub ArePrunedRightly : PlainProblem → List KeptPair → List Event → Type 0
-ArePrunedRightly p kept es = (j : ℕ) (a : Action) (x : KeptPair) (path : List Action) → Among (event.Pruned j a) es → slice_get kept j ≡ Some x → pair_of p path ≡ Some x.node → IsPrunedRightly p (path ++ a ∷ [])
+ArePrunedRightly p kept es = (j : ℕ) (a : Action) (x : KeptPair) (path : List Action) → Among (event.Pruned j a) es → slice_get kept j ≡
+    Some x → pair_of p path ≡ Some x.node → IsPrunedRightly p (path ++ a ∷ [])

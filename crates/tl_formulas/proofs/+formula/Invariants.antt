@@ -42,7 +42,10 @@ decreases-formulas::formulas l = 6 * sizes (trees_in l.forms.now)
 -- the formulas so far, and after them those that are left
 abbrev pub invariant-formulas::formulas-loop-form : goal.invariant-formulas::formulas-loop-form
 invariant-formulas::formulas-loop-form l = record {
-  breaks : formulas_breaks l.role l.vocabulary.declared.now l.scope (trees_in l.forms) ≡ formulas_breaks l.role l.vocabulary.declared.now l.scope (trees_in (drop l.form-index l.forms));
-  meant : formulas_meant l.vocabulary.names.now l.vocabulary.declared.now l.scope (trees_in l.forms) ≡ after_formulas (map tree_of_formula l.formulas.items.items) (formulas_meant l.vocabulary.names.now l.vocabulary.declared.now l.scope (trees_in (drop l.form-index l.forms)));
+  breaks : formulas_breaks l.role l.vocabulary.declared.now l.scope (trees_in l.forms) ≡
+      formulas_breaks l.role l.vocabulary.declared.now l.scope (trees_in (drop l.form-index l.forms));
+  meant : formulas_meant l.vocabulary.names.now l.vocabulary.declared.now l.scope (trees_in l.forms) ≡
+      after_formulas (map tree_of_formula l.formulas.items.items) (formulas_meant l.vocabulary.names.now l.vocabulary.declared.now l.scope
+      (trees_in (drop l.form-index l.forms)));
   fewer : sizes (trees_in (drop l.form-index l.forms)) ≤ sizes (trees_in l.forms);
 }

@@ -9,6 +9,7 @@ abbrev pub invariant-loop-form : goal.invariant-loop-form
 invariant-loop-form l =
     let occurs = occurs_within l.within in
     record {
-      breaks : parameters_breaks occurs [] (trees_in l.variables) ≡ parameters_breaks occurs l.earlier (trees_in (drop l.form-index l.variables));
+      breaks : parameters_breaks occurs [] (trees_in l.variables) ≡ parameters_breaks occurs l.earlier
+          (trees_in (drop l.form-index l.variables));
       few : length l.earlier ≤ l.form-index;
     }

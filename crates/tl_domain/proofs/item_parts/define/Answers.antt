@@ -15,7 +15,10 @@ returns c =
     let form : FormTree = list_tree c.in-Some.parts.head in
     let shape = c.in-Some.ensures in
     let room = ap not (ap (λ (n : ℕ). nat_lt n 64) (sym c.len.ensures.count) ∙ lt-ltb c.len.result 64 c.if-len-ge64.false) in
-    let of : AreOf form head.name.text.now (trees_in head.variables.now) = record { named = ap (λ p. p.0) c.in_ok-head.ensures.read.1; rest = ap (λ p. p.1) c.in_ok-head.ensures.read.1 } in (
-      none-both _ _ (define-listed k _ _ _ _ _ shape room) (define-none k _ _ _ _ _ shape of c.in_ok-head.ensures.read.0 c.in_ok-definition.ensures.0),
-      define-gives c.args.names.now k c.args.draft.now.domain _ _ _ _ _ _ _ _ _ shape of (sym (count-trees head.variables.now)) c.in_ok-push.ensures c.in_ok-definition.ensures.1 c.in_ok-push-2.ensures,
+    let of : AreOf form head.name.text.now (trees_in head.variables.now) =
+    record { named = ap (λ p. p.0) c.in_ok-head.ensures.read.1; rest = ap (λ p. p.1) c.in_ok-head.ensures.read.1 } in (
+      none-both _ _ (define-listed k _ _ _ _ _ shape room) (define-none k _ _ _ _ _ shape of c.in_ok-head.ensures.read.0
+          c.in_ok-definition.ensures.0),
+      define-gives c.args.names.now k c.args.draft.now.domain _ _ _ _ _ _ _ _ _ shape of
+          (sym (count-trees head.variables.now)) c.in_ok-push.ensures c.in_ok-definition.ensures.1 c.in_ok-push-2.ensures,
     )

@@ -14,6 +14,7 @@ invariant-loop-form l =
     let now = declared_by l.draft in
     record {
       breaks : items_breaks first (trees_in l.forms) ≡ items_breaks now left;
-      meant : with_items l.names first (domain_tree l.initial.draft.domain) (trees_in l.forms) ≡ with_items l.names now (domain_tree l.draft.domain) left;
+      meant : with_items l.names first (domain_tree l.initial.draft.domain) (trees_in l.forms) ≡
+          with_items l.names now (domain_tree l.draft.domain) left;
       few : l.draft.levels ≤ 64;
     }

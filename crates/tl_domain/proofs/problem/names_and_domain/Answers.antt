@@ -5,4 +5,7 @@ use Rattle.tl_domain.proofs.problem.names_and_domain.Goals as goal
 pub returns-in-Ok : goal.returns-in-Ok
 returns-in-Ok c =
     let e = c.in-Ok.ensures in
-    record { read = read-domain (trees_of c.args.first.now) (trees_of c.args.second.now) c.in_ok-names.names c.in-Ok.domain c.in_ok-names.ensures.names e.read.1 e.keeps }
+    record {
+      read = read-domain (trees_of c.args.first.now) (trees_of c.args.second.now) c.in_ok-names.names c.in-Ok.domain
+          c.in_ok-names.ensures.names e.read.1 e.keeps;
+    }

@@ -10,5 +10,6 @@ abbrev pub invariant-loop-form : goal.invariant-loop-form
 invariant-loop-form l = record {
   no_list : any_list (trees_in (drop l.form-index l.forms)) ≡ false;
   breaks : arguments_breaks l.scope (trees_in l.forms) ≡ arguments_breaks l.scope (trees_in (drop l.form-index l.forms));
-  meant : arguments_meant l.vocabulary.names.now l.scope (trees_in l.forms) ≡ l.args ++ arguments_meant l.vocabulary.names.now l.scope (trees_in (drop l.form-index l.forms));
+  meant : arguments_meant l.vocabulary.names.now l.scope (trees_in l.forms) ≡ l.args ++
+      arguments_meant l.vocabulary.names.now l.scope (trees_in (drop l.form-index l.forms));
 }

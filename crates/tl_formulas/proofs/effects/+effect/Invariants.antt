@@ -30,7 +30,10 @@ decreases-effects l = 6 * sizes (trees_in l.forms.now)
 -- the effects so far, and after them those that are left
 abbrev pub invariant-effects-loop-form : goal.invariant-effects-loop-form
 invariant-effects-loop-form l = record {
-  breaks : effects_breaks l.vocabulary.declared.now l.scope (trees_in l.forms) ≡ effects_breaks l.vocabulary.declared.now l.scope (trees_in (drop l.form-index l.forms));
-  meant : effects_meant l.vocabulary.names.now l.vocabulary.declared.now l.scope (trees_in l.forms) ≡ after_effects (map tree_of_effect l.effects.items.items) (effects_meant l.vocabulary.names.now l.vocabulary.declared.now l.scope (trees_in (drop l.form-index l.forms)));
+  breaks : effects_breaks l.vocabulary.declared.now l.scope (trees_in l.forms) ≡
+      effects_breaks l.vocabulary.declared.now l.scope (trees_in (drop l.form-index l.forms));
+  meant : effects_meant l.vocabulary.names.now l.vocabulary.declared.now l.scope (trees_in l.forms) ≡
+      after_effects (map tree_of_effect l.effects.items.items) (effects_meant l.vocabulary.names.now l.vocabulary.declared.now l.scope
+      (trees_in (drop l.form-index l.forms)));
   fewer : sizes (trees_in (drop l.form-index l.forms)) ≤ sizes (trees_in l.forms);
 }

@@ -17,13 +17,21 @@ unfolding term_breaks term_meant
 terms-loop-form-preserved t c =
     let next = trees-next c.args.forms.now c.loop-form.form-index c.form-item.result c.loop-form-test.true c.form-item.is in
     let later = trees_in (drop (c.loop-form.form-index + 1) c.args.forms.now) in
-    let read : (term_breaks c.args.vocabulary.now.declared.now.functions c.args.scope.now (tree_of c.form-item.result) ≡ []) × (tree_of_term c.in_ok-one.one ≡ term_meant c.args.vocabulary.now.names.now c.args.vocabulary.now.declared.now.functions c.args.scope.now (tree_of c.form-item.result)) = c.in_ok-one.ensures in
+    let read : (term_breaks c.args.vocabulary.now.declared.now.functions c.args.scope.now (tree_of c.form-item.result) ≡ []) ×
+    (tree_of_term c.in_ok-one.one ≡ term_meant c.args.vocabulary.now.names.now c.args.vocabulary.now.declared.now.functions
+    c.args.scope.now (tree_of c.form-item.result)) = c.in_ok-one.ensures in
     record {
-      breaks = c.loop-form.invariant.breaks ∙ ap (terms_breaks c.args.vocabulary.now.declared.now.functions c.args.scope.now) next ∙ ap (λ bs. bs ++ terms_breaks c.args.vocabulary.now.declared.now.functions c.args.scope.now later) read.0;
+      breaks = c.loop-form.invariant.breaks ∙ ap (terms_breaks c.args.vocabulary.now.declared.now.functions c.args.scope.now) next ∙
+          ap (λ bs. bs ++ terms_breaks c.args.vocabulary.now.declared.now.functions c.args.scope.now later) read.0;
       meant = c.loop-form.invariant.meant
-          ∙ ap (λ fs. after_terms (map tree_of_term c.loop-form.terms.items.items) (terms_meant c.args.vocabulary.now.names.now c.args.vocabulary.now.declared.now.functions c.args.scope.now fs)) next
-          ∙ ap (λ u. after_terms (map tree_of_term c.loop-form.terms.items.items) (more_terms u (terms_meant c.args.vocabulary.now.names.now c.args.vocabulary.now.declared.now.functions c.args.scope.now later))) (sym read.1)
-          ∙ sym (terms-more c.loop-form.terms.items.items c.push.new.self.items.items c.in_ok-one.one (terms_meant c.args.vocabulary.now.names.now c.args.vocabulary.now.declared.now.functions c.args.scope.now later) c.in_ok-push.ensures.added);
+          ∙ ap (λ fs. after_terms (map tree_of_term c.loop-form.terms.items.items)
+          (terms_meant c.args.vocabulary.now.names.now c.args.vocabulary.now.declared.now.functions c.args.scope.now fs)) next
+          ∙ ap (λ u. after_terms (map tree_of_term c.loop-form.terms.items.items)
+          (more_terms u (terms_meant c.args.vocabulary.now.names.now c.args.vocabulary.now.declared.now.functions c.args.scope.now
+          later))) (sym read.1)
+          ∙ sym (terms-more c.loop-form.terms.items.items c.push.new.self.items.items c.in_ok-one.one
+          (terms_meant c.args.vocabulary.now.names.now c.args.vocabulary.now.declared.now.functions c.args.scope.now later)
+          c.in_ok-push.ensures.added);
       fewer = omega (arith, ap sizes next, c.loop-form.invariant.fewer);
     }
 
@@ -32,7 +40,9 @@ unfolding term_breaks term_meant
 terms-returns t c =
     let end = trees-end c.args.forms.now c.loop-form.form-index c.loop-form-test.false in (
       c.loop-form.invariant.breaks ∙ ap (terms_breaks c.args.vocabulary.now.declared.now.functions c.args.scope.now) end,
-      terms-whole c.loop-form.terms ∙ sym (c.loop-form.invariant.meant ∙ ap (λ fs. after_terms (map tree_of_term c.loop-form.terms.items.items) (terms_meant c.args.vocabulary.now.names.now c.args.vocabulary.now.declared.now.functions c.args.scope.now fs)) end),
+      terms-whole c.loop-form.terms ∙ sym (c.loop-form.invariant.meant ∙
+          ap (λ fs. after_terms (map tree_of_term c.loop-form.terms.items.items)
+          (terms_meant c.args.vocabulary.now.names.now c.args.vocabulary.now.declared.now.functions c.args.scope.now fs)) end),
     )
 
 pub terms-returns-in_err-one : goal.terms-returns-in_err-one
@@ -44,7 +54,9 @@ terms-returns-in_err-one t c =
     let later = trees_in (drop (c.loop-form.form-index + 1) c.args.forms.now) in
     let fault = c.in_err-one.field-0.0 in
     let here : IsFirst (term_breaks functions scope (tree_of c.form-item.result)) fault = c.in_err-one.ensures in
-    let first : IsFirst (term_breaks functions scope (tree_of c.form-item.result) ++ terms_breaks functions scope later) fault = first-front _ _ fault here in
-    let all : terms_breaks functions scope (trees_in c.args.forms.now) ≡ term_breaks functions scope (tree_of c.form-item.result) ++ terms_breaks functions scope later = c.loop-form.invariant.breaks ∙ ap (terms_breaks functions scope) next in
+    let first : IsFirst (term_breaks functions scope (tree_of c.form-item.result) ++ terms_breaks functions scope later) fault =
+    first-front _ _ fault here in
+    let all : terms_breaks functions scope (trees_in c.args.forms.now) ≡ term_breaks functions scope (tree_of c.form-item.result) ++
+    terms_breaks functions scope later = c.loop-form.invariant.breaks ∙ ap (terms_breaks functions scope) next in
     let p = err_from_is_err_and c.from_residual.result c.from_residual.ensures.1 in
     rw (p.1, p.2, all) first

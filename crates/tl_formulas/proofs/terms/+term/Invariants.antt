@@ -26,7 +26,10 @@ decreases-terms l = 4 * sizes (trees_in l.forms.now)
 -- the terms so far, and after them those that are left
 abbrev pub invariant-terms-loop-form : goal.invariant-terms-loop-form
 invariant-terms-loop-form l = record {
-  breaks : terms_breaks l.vocabulary.declared.now.functions l.scope (trees_in l.forms) ≡ terms_breaks l.vocabulary.declared.now.functions l.scope (trees_in (drop l.form-index l.forms));
-  meant : terms_meant l.vocabulary.names.now l.vocabulary.declared.now.functions l.scope (trees_in l.forms) ≡ after_terms (map tree_of_term l.terms.items.items) (terms_meant l.vocabulary.names.now l.vocabulary.declared.now.functions l.scope (trees_in (drop l.form-index l.forms)));
+  breaks : terms_breaks l.vocabulary.declared.now.functions l.scope (trees_in l.forms) ≡
+      terms_breaks l.vocabulary.declared.now.functions l.scope (trees_in (drop l.form-index l.forms));
+  meant : terms_meant l.vocabulary.names.now l.vocabulary.declared.now.functions l.scope (trees_in l.forms) ≡
+      after_terms (map tree_of_term l.terms.items.items) (terms_meant l.vocabulary.names.now l.vocabulary.declared.now.functions l.scope
+      (trees_in (drop l.form-index l.forms)));
   fewer : sizes (trees_in (drop l.form-index l.forms)) ≤ sizes (trees_in l.forms);
 }

@@ -7,6 +7,7 @@ use Rattle.tl_formulas.proofs.variables.variables.Given as goal
 -- the variables so far, and those that are left
 abbrev pub invariant-loop-form : goal.invariant-loop-form
 invariant-loop-form l = record {
-  vars : variables_from l.names l.from (texts_of (trees_in l.variables)) ≡ l.vars ++ variables_from l.names l.slot (texts_of (trees_in (drop l.form-index l.variables)));
+  vars : variables_from l.names l.from (texts_of (trees_in l.variables)) ≡ l.vars ++
+      variables_from l.names l.slot (texts_of (trees_in (drop l.form-index l.variables)));
   few : l.slot ≤ l.from + l.form-index;
 }

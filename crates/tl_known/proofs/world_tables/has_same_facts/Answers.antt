@@ -11,4 +11,7 @@ returns-in-Some-Some c = λ t a _.
     let same : rows ≡ others = (rows-tell rows others).0 (sym c.eq.ensures ∙ t) in
     let these = c.in-Some-Some.ensures.facts a in
     let those = c.in-Some-Some.ensures'.facts a in
-    told_alike {P = Among a rows} _ _ (these.1, these.0) ((λ h. subst (Among a) (sym same) (those.1 h)), (λ m. those.0 (subst (Among a) same m)))
+    told_alike {P = Among a rows} _ _ (these.1, these.0) (
+      (λ h. subst (Among a) (sym same) (those.1 h)),
+      (λ m. those.0 (subst (Among a) same m)),
+    )

@@ -7,4 +7,5 @@ pub returns-in-Some-Some : goal.returns-in-Some-Some
 returns-in-Some-Some c = λ t.
     let rows = c.in-Some-Some.rows.now in
     let others = c.in-Some-Some.others.now in
-    same-values c.args.world.now c.args.other.now c.args.fun rows others c.in-Some-Some.ensures.places c.in-Some-Some.ensures'.places ((place_rows-tell rows others).0 (sym c.eq.ensures ∙ t))
+    same-values c.args.world.now c.args.other.now c.args.fun rows others c.in-Some-Some.ensures.places c.in-Some-Some.ensures'.places
+    ((place_rows-tell rows others).0 (sym c.eq.ensures ∙ t))

@@ -21,11 +21,13 @@ returns-in-GoalFact c = rw (c.in-GoalFact.is, tree-GoalFact c.in-GoalFact.pred c
 
 pub returns-in-GoalPlace : goal.returns-in-GoalPlace
 unfolding formula_text
-returns-in-GoalPlace c = rw (c.in-GoalPlace.is, tree-GoalPlace c.in-GoalPlace.fun c.in-GoalPlace.args c.in-GoalPlace.value) c.put_goal_place.ensures
+returns-in-GoalPlace c = rw (c.in-GoalPlace.is, tree-GoalPlace c.in-GoalPlace.fun c.in-GoalPlace.args c.in-GoalPlace.value)
+    c.put_goal_place.ensures
 
 pub returns-in-GoalNot : goal.returns-in-GoalNot
 unfolding formula_text
 returns-in-GoalNot c = rw (c.in-GoalNot.is, tree-GoalNot c.in-GoalNot.pred c.in-GoalNot.args) c.put_goal_not.ensures
 
 pub returns-in_default : goal.returns-in_default
-returns-in_default c = let h = c.in_default in absurd (not-basic c.args.f.now c.requires h.not-Atom h.not-Defined h.not-Compare h.not-GoalFact h.not-GoalPlace h.not-GoalNot)
+returns-in_default c = let h = c.in_default in absurd (not-basic c.args.f.now c.requires h.not-Atom h.not-Defined h.not-Compare
+    h.not-GoalFact h.not-GoalPlace h.not-GoalNot)

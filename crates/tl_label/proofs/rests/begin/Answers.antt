@@ -15,16 +15,20 @@ returns-in_ok-push-clause-text c =
     let p = c.args.problem.now in
     let s = c.args.nodes.now in
     ap (λ rs. with_rests p s c.put_head.new.line rs) c.in_ok-push.ensures.items
-    ∙ begun-open p s c.args.id c.get-node.result.now c.args.line.now c.put_head.new.line c.args.rests.now.items c.get-node.ensures.tree (sym c.is_open.ensures ∙ c.if-is_open.true) c.in_ok-put_head.ensures
+    ∙ begun-open p s c.args.id c.get-node.result.now c.args.line.now c.put_head.new.line c.args.rests.now.items c.get-node.ensures.tree
+    (sym c.is_open.ensures ∙ c.if-is_open.true) c.in_ok-put_head.ensures
 
 pub returns-in_ok-push-clause-room : goal.returns-in_ok-push-clause-room
 returns-in_ok-push-clause-room c =
-    subst (λ (k : Written). room k ≤ room c.args.line.now) (sym c.in_ok-put_head.ensures) (room-falls c.args.line.now (head_text c.args.problem.now.names c.args.problem.now.domain c.get-node.result.now))
+    subst (λ (k : Written). room k ≤ room c.args.line.now) (sym c.in_ok-put_head.ensures)
+    (room-falls c.args.line.now (head_text c.args.problem.now.names c.args.problem.now.domain c.get-node.result.now))
 
 pub returns-else-is_open-clause-text : goal.returns-else-is_open-clause-text
 returns-else-is_open-clause-text c =
-    begun-closed c.args.problem.now c.args.nodes.now c.args.id c.get-node.result.now c.args.line.now c.put_head.new.line c.args.rests.now.items c.get-node.ensures.tree (sym c.is_open.ensures ∙ c.if-is_open.false) c.in_ok-put_head.ensures
+    begun-closed c.args.problem.now c.args.nodes.now c.args.id c.get-node.result.now c.args.line.now c.put_head.new.line
+    c.args.rests.now.items c.get-node.ensures.tree (sym c.is_open.ensures ∙ c.if-is_open.false) c.in_ok-put_head.ensures
 
 pub returns-else-is_open-clause-room : goal.returns-else-is_open-clause-room
 returns-else-is_open-clause-room c =
-    subst (λ (k : Written). room k ≤ room c.args.line.now) (sym c.in_ok-put_head.ensures) (room-falls c.args.line.now (head_text c.args.problem.now.names c.args.problem.now.domain c.get-node.result.now))
+    subst (λ (k : Written). room k ≤ room c.args.line.now) (sym c.in_ok-put_head.ensures)
+    (room-falls c.args.line.now (head_text c.args.problem.now.names c.args.problem.now.domain c.get-node.result.now))

@@ -5,4 +5,5 @@ use Rattle.tl_line.proofs.ActionOrder.{action-order}
 use Rattle.tl_line.proofs.laws.first_break_is_least.Goals as goal
 
 pub returns : goal.returns
-returns c = λ names operators f low next b rises is. first-least (64 * offset_of f) (64 * next) _ b (action-order names operators f low next rises) is
+returns c = λ names operators f low next b rises is. first-least (64 * offset_of f) (64 * next) _ b
+    (action-order names operators f low next rises) is

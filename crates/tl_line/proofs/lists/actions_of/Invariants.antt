@@ -9,8 +9,10 @@ use Rattle.tl_line.proofs.lists.actions_of.Given as goal
 -- the actions so far, and after them those that are left
 abbrev pub invariant-loop-form : goal.invariant-loop-form
 invariant-loop-form l = record {
-  breaks : actions_breaks l.problem.names l.problem.domain.operators l.before (trees_in l.forms) ≡ actions_breaks l.problem.names l.problem.domain.operators (l.before + length l.actions) (trees_in (drop l.form-index l.forms));
-  meant : actions_meant l.problem.names l.problem.domain.operators (trees_in l.forms) ≡ l.actions ++ actions_meant l.problem.names l.problem.domain.operators (trees_in (drop l.form-index l.forms));
+  breaks : actions_breaks l.problem.names l.problem.domain.operators l.before (trees_in l.forms) ≡
+      actions_breaks l.problem.names l.problem.domain.operators (l.before + length l.actions) (trees_in (drop l.form-index l.forms));
+  meant : actions_meant l.problem.names l.problem.domain.operators (trees_in l.forms) ≡ l.actions ++
+      actions_meant l.problem.names l.problem.domain.operators (trees_in (drop l.form-index l.forms));
   few : l.before + length l.actions ≤ 100000;
   named : Each (ActionIsNamed l.problem.names l.problem.domain.operators) l.actions;
 }

@@ -14,12 +14,17 @@ use Rattle.tl_line.proofs.ActionNames.{action-named}
 use Rattle.tl_line.proofs.ActionOrder.{least-fault}
 use Rattle.tl_line.proofs.read.action_of.Goals as goal
 
-named : (names : List (List ℕ)) (operators : List Operator) (f : FormTree) (r : Result Action FormFault) → Reads (λ (x : Action). x) r (action_breaks names operators f) (action_meant names operators f) → IfOk r (λ a. ActionIsNamed names operators a)
-named names operators f (Ok a) h = let P : Action → Type 0 = λ a. ActionIsNamed names operators a in subst P (sym h.1) (action-named names operators f h.0)
+named : (names : List (List ℕ)) (operators : List Operator) (f : FormTree) (r : Result Action FormFault) →
+    Reads (λ (x : Action). x) r (action_breaks names operators f) (action_meant names operators f) →
+    IfOk r (λ a. ActionIsNamed names operators a)
+named names operators f (Ok a) h = let P : Action → Type 0 = λ a. ActionIsNamed names operators a in
+    subst P (sym h.1) (action-named names operators f h.0)
 named names operators f (Err e) h = tt
 
 pub returns-clause-named : goal.returns-clause-named
-returns-clause-named c = named c.args.problem.now.names c.args.problem.now.domain.operators (tree_of c.args.form.now) c.action.result (rw c.as_slice.ensures at c.action.ensures)
+returns-clause-named c = named c.args.problem.now.names c.args.problem.now.domain.operators (tree_of c.args.form.now) c.action.result
+    (rw c.as_slice.ensures at c.action.ensures)
 
 pub returns-clause-least : goal.returns-clause-least
-returns-clause-least c = λ low next rises. least-fault c.args.problem.now.names c.args.problem.now.domain.operators (tree_of c.args.form.now) low next c.action.result (rw c.as_slice.ensures at c.action.ensures) rises
+returns-clause-least c = λ low next rises. least-fault c.args.problem.now.names c.args.problem.now.domain.operators
+    (tree_of c.args.form.now) low next c.action.result (rw c.as_slice.ensures at c.action.ensures) rises

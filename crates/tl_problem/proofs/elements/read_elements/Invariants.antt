@@ -10,6 +10,8 @@ invariant-loop-form l =
     let names = l.vocabulary.names.now in
     let d = l.vocabulary.declared.now in
     record {
-      breaks : elements_breaks names d l.section (literals_in l.initial.literals) (trees_in l.forms) ≡ elements_breaks names d l.section (literals_in l.literals) (trees_in (drop l.form-index l.forms));
-      meant : with_elements names d l.section (literals_in l.initial.literals) (trees_in l.forms) ≡ with_elements names d l.section (literals_in l.literals) (trees_in (drop l.form-index l.forms));
+      breaks : elements_breaks names d l.section (literals_in l.initial.literals) (trees_in l.forms) ≡
+          elements_breaks names d l.section (literals_in l.literals) (trees_in (drop l.form-index l.forms));
+      meant : with_elements names d l.section (literals_in l.initial.literals) (trees_in l.forms) ≡
+          with_elements names d l.section (literals_in l.literals) (trees_in (drop l.form-index l.forms));
     }

@@ -6,7 +6,8 @@ use Rattle.tl_problem.proofs.problem.problem_with.Goals as goal
 
 pub invariant_of-result : goal.invariant_of-result
 invariant_of-result c =
-    let kept = subst (λ (s : Sections). SectionsKeep (signature_of c.args.domain) (length c.args.names) s) (sym c.in-Ok.ensures) c.requires.said in
+    let kept = subst (λ (s : Sections). SectionsKeep (signature_of c.args.domain) (length c.args.names) s)
+    (sym c.in-Ok.ensures) c.requires.said in
     record {
       settled = c.requires.order;
       domain_keeps = c.requires.domain;

@@ -10,7 +10,8 @@ returns-then-worlds-len c ws h =
     let k = c.args.worlds in
     let start = c.index-start.result.now in
     let below : k < length s.starts.items = omega (arith, c.if-worlds-len.true, c.len.ensures, s.starts.ok.0) in
-    let first = numbered-first ws s.starts.items s.all.items k h start (slice_get_read s.starts.items (length s.starts.items) k start refl below c.index-start.ensures) in
+    let first = numbered-first ws s.starts.items s.all.items k h start
+    (slice_get_read s.starts.items (length s.starts.items) k start refl below c.index-start.ensures) in
     subst (λ starts. AreNumbered (take k ws) starts c.truncate-then-worlds-len.new.self.items) (sym c.truncate.ensures.items)
     (subst (AreNumbered (take k ws) (take k s.starts.items)) (sym c.truncate-then-worlds-len.ensures.items) first)
 

@@ -8,5 +8,6 @@ invariant-loop-i l = record {
   starts : l.self.starts.items ≡ l.fn.self.starts.items;
   all : l.self.all.items ≡ l.fn.self.all.items;
   many : length l.numbers.items ≡ l.i;
-  are : (w : World) → slice_get l.worlds.keys l.number ≡ Some w → ComesFrom l.worlds.keys l.source.from l.source.dels.now l.source.adds.now l.source.sets.now w → AreTableNumbers l.worlds.keys w l.numbers.items;
+  are : (w : World) → slice_get l.worlds.keys l.number ≡ Some w → ComesFrom l.worlds.keys l.source.from l.source.dels.now l.source.adds.now
+      l.source.sets.now w → AreTableNumbers l.worlds.keys w l.numbers.items;
 }

@@ -10,5 +10,6 @@ invariant_of-self c =
     let numbers = c.keep_first.new.self in
     record {
       one_to_one = once world_eq world-tells _ c.truncate.ensures.unique;
-      numbered = subst (λ ws. AreNumbered ws numbers.starts.items numbers.all.items) (sym c.truncate.ensures.keys) (c.keep_first.ensures _ c.args.self.now.numbered);
+      numbered = subst (λ ws. AreNumbered ws numbers.starts.items numbers.all.items) (sym c.truncate.ensures.keys)
+          (c.keep_first.ensures _ c.args.self.now.numbered);
     }

@@ -15,4 +15,5 @@ returns-then-more-self c =
 pub returns : goal.returns
 returns c =
     let e = seen-short c.self.inside.is_long (c.self.inside.text, c.self.inside.room) c.args.self.now c.self.view_is c.if-self.false in
-    rw (e, c.if-self.false, c.in_ok-extend.ensures) (sym (after-fits (c.self.inside.text, c.self.inside.room) c.args.more.now c.if-more-self.false))
+    rw (e, c.if-self.false, c.in_ok-extend.ensures) (sym (after-fits (c.self.inside.text, c.self.inside.room) c.args.more.now
+    c.if-more-self.false))
