@@ -1,9 +1,10 @@
 -- Formulas that changes of facts make true or false.
 use Rattle.std.specs.Prelude.{◌≡◌, ◌==◌, ℕ, List, [], ◌∷◌, map, Bool, true, false, not, ◌&&◌}
 use Rattle.std.specs.List.{list_any}
-use Rattle.tl_nodes.specs.declared.nodes.Nodes.{Nodes}
 use Rattle.tl_nodes.specs.NodeTrees.{tree_at}
 use Rattle.tl_nodes.specs.Numbers.{trees}
+use Rattle.tl_progress.specs.declared.fact_changes.FactChanges.{FactChanges}
+use Rattle.tl_progress.specs.declared.part_places.Conjunction.{Conjunction}
 use Rattle.tl_syntax.specs.declared.fact.Fact.{Fact}
 use Rattle.tl_syntax.specs.declared.term.Term.{Term}
 use Rattle.tl_syntax.specs.declared.value.Value.{Value}
@@ -27,9 +28,13 @@ AreChanged w v dels adds = v.facts ≡ with_all (without_all w.facts (map fact_k
 abbrev pub LeavesTruth : Bool → FormulaTree → List Fact → List Fact → Type 0
 LeavesTruth b f dels adds = (p : PlainProblem) (w v : World) → AreChanged w v dels adds → progressed (situation_of p v) no_values f ≡ constant b
 
--- one of the numbers' trees leaves FALSE
-abbrev pub OneLeavesFalse : Nodes → List ℕ → List Fact → List Fact → Type 0
-OneLeavesFalse nodes ids dels adds = (q : ℕ) × Among q ids × LeavesTruth false (tree_at (trees nodes) q) dels adds
+-- in each world after these changes
+abbrev pub LeavesAfter : Bool → FormulaTree → FactChanges → Type 0
+LeavesAfter b f changes = LeavesTruth b f changes.dels.now changes.adds.now
+
+-- one of the conjunction's parts leaves FALSE
+abbrev pub OneLeavesFalse : Conjunction → FactChanges → Type 0
+OneLeavesFalse conjunction changes = (q : ℕ) × Among q conjunction.parts.now × LeavesAfter false (tree_at (trees conjunction.nodes.now) q) changes
 
 -- the term is the value itself
 abbrev pub is_value_term : TermTree → Value → Bool

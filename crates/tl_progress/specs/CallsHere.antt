@@ -1,7 +1,7 @@
 -- What calls take and answer where formulas are read: in a world of a task, with what is known
 -- there.
 use Rattle.std.specs.Borrow.{Bor}
-use Rattle.std.specs.Prelude.{◌≡◌, ℕ, List, Bool, Option, Some, None, Result, IfOk, IfErr, IfSome, IfNone, nat_eq}
+use Rattle.std.specs.Prelude.{◌≡◌, ◌<◌, ℕ, length, List, Bool, Option, Some, None, Result, IfOk, IfErr, IfSome, IfNone, IsTrue, nat_eq}
 use Rattle.indexmap.specs.IndexMap.{get}
 use Rattle.tl_eval.specs.Frames.{assignment_in}
 use Rattle.tl_eval.specs.BoundTuples.{ReadsBound}
@@ -9,9 +9,11 @@ use Rattle.tl_eval.specs.Reading.{situation_in}
 use Rattle.tl_eval.specs.Remembered.{Remembered}
 use Rattle.tl_eval.specs.StateTruth.{Remembers}
 use Rattle.tl_nodes.specs.declared.nodes.Nodes.{Nodes}
-use Rattle.tl_nodes.specs.Numbers.{Denotes}
+use Rattle.tl_nodes.specs.Fits.{all_below}
+use Rattle.tl_nodes.specs.Numbers.{trees, tree_in, Denotes}
 use Rattle.tl_eval.specs.declared.fault.EvalFault.{EvalFault}
 use Rattle.tl_progress.specs.declared.here.Here.{Here}
+use Rattle.tl_progress.specs.declared.here.FormulasHere.{FormulasHere}
 use Rattle.tl_progress.specs.declared.joined.Joined.{Joined}
 use Rattle.tl_progress.specs.declared.joined.OpenParts.{OpenParts}
 use Rattle.tl_progress.specs.declared.known.WorkedOut.{WorkedOut}
@@ -53,6 +55,17 @@ residuals_in (Some known) k = get nat_eq known.now.residuals k
 abbrev pub KnowsTruths : Here → Nodes → Type 0
 KnowsTruths here nodes = AreTruthsIn here.task.now here.world.now nodes (truths_in here.known)
 
+-- the number is one of a formula that can be read there, and the truths that are known are right
+pub record IsReadable (formulas : FormulasHere) (i : ℕ) : Type 0 where
+  pub at : i < length (trees formulas.nodes.now)
+  pub fits : FitsHere formulas.here.now (tree_in formulas.nodes.now i)
+  pub known : KnowsTruths formulas.here.now formulas.nodes.now
+
+-- the number is one of a sentence of the task
+pub record IsSentenceAt (here : Here) (nodes : Nodes) (i : ℕ) : Type 0 where
+  pub at : i < length (trees nodes)
+  pub sentence : IsSentenceHere here (tree_in nodes i)
+
 -- what is known is right of it
 pub record KnowsRightly (here : Here) (nodes : Nodes) : Type 0 where
   pub truths : KnowsTruths here nodes
@@ -66,6 +79,11 @@ KeepsRightlyHere here nodes kept n = KeepsRightly here.task.now here.world.now n
 abbrev pub RemembersHere : Here → List Remembered → Type 0
 RemembersHere here rs = Remembers here.task.now here.world.now rs
 
+-- the frame is as it was, and what is remembered is right
+pub record LeavesFrame (here : Here) (old new : List (Option Value)) (rs : List Remembered) : Type 0 where
+  pub frame : new ≡ old
+  pub remembers : RemembersHere here rs
+
 -- the tree of a conjunction or a disjunction
 abbrev pub tree_of_join : Nodes → Join → FormulaTree
 tree_of_join nodes join = join_at nodes join.junction join.parts.now
@@ -73,6 +91,19 @@ tree_of_join nodes join = join_at nodes join.junction join.parts.now
 -- the tree of a quantified formula
 abbrev pub tree_of_quantified : Nodes → Quantified → FormulaTree
 tree_of_quantified nodes q = quantified_at nodes q.junction q.vars.now q.bound.now q.part
+
+-- the join can be read there, its parts come before it, and the truths that are known are right
+pub record IsReadableJoin (formulas : FormulasHere) (join : Join) : Type 0 where
+  pub at : join.at < length (trees formulas.nodes.now)
+  pub below : IsTrue (all_below join.at join.parts.now)
+  pub fits : FitsHere formulas.here.now (tree_of_join formulas.nodes.now join)
+  pub known : KnowsTruths formulas.here.now formulas.nodes.now
+
+-- the quantified formula can be read there, and the truths that are known are right
+pub record IsReadableOver (formulas : FormulasHere) (q : Quantified) : Type 0 where
+  pub part : q.part < length (trees formulas.nodes.now)
+  pub fits : FitsHere formulas.here.now (tree_of_quantified formulas.nodes.now q)
+  pub known : KnowsTruths formulas.here.now formulas.nodes.now
 
 -- it is the truth of a formula without temporal words, under the values of the frame
 abbrev pub IsStateTruth : Here → List (Option Value) → FormulaTree → Result Bool EvalFault → Type 0
@@ -83,28 +114,28 @@ abbrev pub IsStateFault : Here → List (Option Value) → FormulaTree → Resul
 IsStateFault here frame f result = IfErr result (IsCausedBy (looked_in_world here.task.now here.world.now frame f))
 
 -- it is the truth of a number's tree where the world is repeated for ever
-abbrev pub IsTruthAt : Here → List (Option Value) → Nodes → ℕ → Result Bool EvalFault → Type 0
-IsTruthAt here frame nodes i result = IfOk result (λ b. b ≡ idly_true_at here.task.now here.world.now frame nodes i)
+abbrev pub IsTruthAt : FormulasHere → List (Option Value) → ℕ → Result Bool EvalFault → Type 0
+IsTruthAt formulas frame i result = IfOk result (λ b. b ≡ idly_true_at formulas.here.now.task.now formulas.here.now.world.now frame formulas.nodes.now i)
 
 -- or a fault of what is looked at for it
-abbrev pub IsTruthFault : Here → List (Option Value) → Nodes → ℕ → Result Bool EvalFault → Type 0
-IsTruthFault here frame nodes i result = IfErr result (IsCausedBy (looked_idly_at here.task.now here.world.now frame nodes i))
+abbrev pub IsTruthFault : FormulasHere → List (Option Value) → ℕ → Result Bool EvalFault → Type 0
+IsTruthFault formulas frame i result = IfErr result (IsCausedBy (looked_idly_at formulas.here.now.task.now formulas.here.now.world.now frame formulas.nodes.now i))
 
 -- it is the truth of a join
-abbrev pub IsJoinTruth : Here → List (Option Value) → Nodes → Join → Result Bool EvalFault → Type 0
-IsJoinTruth here frame nodes join result = IfOk result (λ b. b ≡ idly_true_join here.task.now here.world.now frame nodes join.junction join.parts.now)
+abbrev pub IsJoinTruth : FormulasHere → List (Option Value) → Join → Result Bool EvalFault → Type 0
+IsJoinTruth formulas frame join result = IfOk result (λ b. b ≡ idly_true_join formulas.here.now.task.now formulas.here.now.world.now frame formulas.nodes.now join.junction join.parts.now)
 
 -- or a fault of what is looked at for it
-abbrev pub IsJoinFault : Here → List (Option Value) → Nodes → Join → Result Bool EvalFault → Type 0
-IsJoinFault here frame nodes join result = IfErr result (IsCausedBy (looked_idly_join here.task.now here.world.now frame nodes join.junction join.parts.now))
+abbrev pub IsJoinFault : FormulasHere → List (Option Value) → Join → Result Bool EvalFault → Type 0
+IsJoinFault formulas frame join result = IfErr result (IsCausedBy (looked_idly_join formulas.here.now.task.now formulas.here.now.world.now frame formulas.nodes.now join.junction join.parts.now))
 
 -- it is the truth of a quantified formula
-abbrev pub IsQuantifiedTruth : Here → List (Option Value) → Nodes → Quantified → Result Bool EvalFault → Type 0
-IsQuantifiedTruth here frame nodes q result = IfOk result (λ b. b ≡ idly_true_over here.task.now here.world.now frame nodes q.junction q.vars.now q.bound.now q.part)
+abbrev pub IsQuantifiedTruth : FormulasHere → List (Option Value) → Quantified → Result Bool EvalFault → Type 0
+IsQuantifiedTruth formulas frame q result = IfOk result (λ b. b ≡ idly_true_over formulas.here.now.task.now formulas.here.now.world.now frame formulas.nodes.now q.junction q.vars.now q.bound.now q.part)
 
 -- or a fault of what is looked at for it
-abbrev pub IsQuantifiedFault : Here → List (Option Value) → Nodes → Quantified → Result Bool EvalFault → Type 0
-IsQuantifiedFault here frame nodes q result = IfErr result (IsCausedBy (looked_idly_over here.task.now here.world.now frame nodes q.junction q.vars.now q.bound.now q.part))
+abbrev pub IsQuantifiedFault : FormulasHere → List (Option Value) → Quantified → Result Bool EvalFault → Type 0
+IsQuantifiedFault formulas frame q result = IfErr result (IsCausedBy (looked_idly_over formulas.here.now.task.now formulas.here.now.world.now frame formulas.nodes.now q.junction q.vars.now q.bound.now q.part))
 
 -- the tuples are those of a quantified formula, under the values of the frame
 abbrev pub ReadsQuantified : Here → Quantified → List (Option Value) → Reading → Type 0
@@ -115,8 +146,8 @@ abbrev pub ReadsInstances : Here → Nodes → Quantifier → List (Option Value
 ReadsInstances here nodes q frame r = ReadsAt here.task.now here.world.now nodes q frame r
 
 -- what has to hold next for a number's tree is the constant of this truth
-abbrev pub IsNextConstant : Here → List (Option Value) → Nodes → ℕ → Result Bool EvalFault → Type 0
-IsNextConstant here frame nodes i result = IfOk result (λ b. residual_at here.task.now here.world.now frame nodes i ≡ constant b)
+abbrev pub IsNextConstant : FormulasHere → List (Option Value) → ℕ → Result Bool EvalFault → Type 0
+IsNextConstant formulas frame i result = IfOk result (λ b. residual_at formulas.here.now.task.now formulas.here.now.world.now frame formulas.nodes.now i ≡ constant b)
 
 -- it is the number of what has to hold next for a number's tree
 abbrev pub IsResidual : Here → List (Option Value) → Nodes → ℕ → Nodes → Result ℕ EvalFault → Type 0
@@ -126,17 +157,25 @@ IsResidual here frame old i new result = IfOk result (λ n. Denotes new n (resid
 abbrev pub IsResidualFault : {A : Type 0} → Here → List (Option Value) → Nodes → ℕ → Result A EvalFault → Type 0
 IsResidualFault here frame nodes i result = IfErr result (IsCausedBy (looked_for_residual_at here.task.now here.world.now frame nodes i))
 
+-- it is the number of what has to hold next, and no node is added for it
+abbrev pub IsKnownResidual : FormulasHere → List (Option Value) → ℕ → Result ℕ EvalFault → Type 0
+IsKnownResidual formulas frame i result = IfOk result (λ n. Denotes formulas.nodes.now n (residual_at formulas.here.now.task.now formulas.here.now.world.now frame formulas.nodes.now i))
+
+-- or a fault of what is looked at for it
+abbrev pub IsNextFault : {A : Type 0} → FormulasHere → List (Option Value) → ℕ → Result A EvalFault → Type 0
+IsNextFault formulas frame i result = IfErr result (IsCausedBy (looked_for_residual_at formulas.here.now.task.now formulas.here.now.world.now frame formulas.nodes.now i))
+
 -- it is that number, where one was found
-abbrev pub IsEarlyResidual : Here → List (Option Value) → Nodes → ℕ → Result (Option ℕ) EvalFault → Type 0
-IsEarlyResidual here frame nodes i result = IfOk result (λ o. IfSome o (λ n. Denotes nodes n (residual_at here.task.now here.world.now frame nodes i)))
+abbrev pub IsEarlyResidual : FormulasHere → List (Option Value) → ℕ → Result (Option ℕ) EvalFault → Type 0
+IsEarlyResidual formulas frame i result = IfOk result (λ o. IfSome o (λ n. Denotes formulas.nodes.now n (residual_at formulas.here.now.task.now formulas.here.now.world.now frame formulas.nodes.now i)))
 
 -- none is left where a part decides the join
-abbrev pub IsDecidedEarly : Here → List (Option Value) → Nodes → Joined → Result (Option (List ℕ)) EvalFault → Type 0
-IsDecidedEarly here frame nodes joined result = IfOk result (λ o. IfNone o (IsDecided here.task.now here.world.now frame nodes joined))
+abbrev pub IsDecidedEarly : FormulasHere → List (Option Value) → Joined → Result (Option (List ℕ)) EvalFault → Type 0
+IsDecidedEarly formulas frame joined result = IfOk result (λ o. IfNone o (IsDecided formulas.here.now.task.now formulas.here.now.world.now frame formulas.nodes.now joined))
 
 -- else these are the parts with temporal words
-abbrev pub AreOpenParts : Here → List (Option Value) → Nodes → Joined → Result (Option (List ℕ)) EvalFault → Type 0
-AreOpenParts here frame nodes joined result = IfOk result (λ o. IfSome o (λ ids. AreOpenIn here.task.now here.world.now frame nodes joined ids))
+abbrev pub AreOpenParts : FormulasHere → List (Option Value) → Joined → Result (Option (List ℕ)) EvalFault → Type 0
+AreOpenParts formulas frame joined result = IfOk result (λ o. IfSome o (λ ids. AreOpenIn formulas.here.now.task.now formulas.here.now.world.now frame formulas.nodes.now joined ids))
 
 -- it is the number of the join of what has to hold next for the parts
 abbrev pub IsOpenResidual : Here → List (Option Value) → Nodes → OpenParts → Nodes → Result ℕ EvalFault → Type 0

@@ -4,12 +4,13 @@ ghost use Rattle.std.specs.Prelude.{◌≡◌, ◌<◌, true, false, length, IsT
 ghost use Rattle.tl_nodes.specs.Fits.{all_below};
 ghost use Rattle.tl_nodes.specs.NodeTrees.{tree_at};
 ghost use Rattle.tl_nodes.specs.Numbers.{trees};
-ghost use Rattle.tl_progress.specs.Broken.{LeavesTruth, OneLeavesFalse, are_value_terms, is_added, is_deleted, is_fact_of, is_value_term};
+ghost use Rattle.tl_progress.specs.Broken.{LeavesAfter, OneLeavesFalse, are_value_terms, is_added, is_deleted, is_fact_of, is_value_term};
 ghost use Rattle.tl_syntax.specs.DerivedTests.{fact_eq};
 ghost use Rattle.tl_syntax.specs.TreeOfFormula.{tree_of_formula};
 ghost use Rattle.tl_syntax.specs.TreeOfTerm.{tree_of_term};
 
 use crate::changed::Changed;
+use crate::fact_changes::FactChanges;
 use crate::part_places::{Conjunction, PartPlaces};
 use tl_nodes::{Node, Nodes};
 use tl_syntax::{Fact, Formula, Term, Value};
@@ -72,65 +73,64 @@ fn is_deleted(pred: u32, terms: &[Term], dels: &[Fact], adds: &[Fact]) -> bool
 }
 
 // Whether the formula is a fact that the changes delete.
-fn deletes(f: &Formula, dels: &[Fact], adds: &[Fact]) -> bool
-    ensures { IsTrue result → LeavesTruth false (tree_of_formula f.now) dels.now adds.now }
+fn deletes(f: &Formula, changes: &FactChanges) -> bool
+    ensures { IsTrue result → LeavesAfter false (tree_of_formula f.now) changes.now }
 {
     match f {
-        Formula::Atom(pred, terms) => is_deleted(*pred, terms.as_slice(), dels, adds),
+        Formula::Atom(pred, terms) => is_deleted(
+            *pred,
+            terms.as_slice(),
+            changes.dels,
+            changes.adds,
+        ),
         _ => false,
     }
 }
 
 // Whether the formula is a fact that the changes add.
-fn adds_it(f: &Formula, dels: &[Fact], adds: &[Fact]) -> bool
-    ensures { IsTrue result → LeavesTruth true (tree_of_formula f.now) dels.now adds.now }
+fn adds_it(f: &Formula, changes: &FactChanges) -> bool
+    ensures { IsTrue result → LeavesAfter true (tree_of_formula f.now) changes.now }
 {
-    let _ = dels;
     match f {
-        Formula::Atom(pred, terms) => is_added(*pred, terms.as_slice(), adds),
+        Formula::Atom(pred, terms) => is_added(*pred, terms.as_slice(), changes.adds),
         _ => false,
     }
 }
 
 // Whether the number's tree is a fact that the changes add.
-fn is_made(nodes: &Nodes, at: usize, dels: &[Fact], adds: &[Fact]) -> bool
+fn is_made(nodes: &Nodes, at: usize, changes: &FactChanges) -> bool
     requires { at < length (trees nodes.now) }
-    ensures { IsTrue result → LeavesTruth true (tree_at (trees nodes.now) at) dels.now adds.now }
+    ensures { IsTrue result → LeavesAfter true (tree_at (trees nodes.now) at) changes.now }
 {
     match nodes.get(at) {
-        Node::Basic(f) => adds_it(f, dels, adds),
+        Node::Basic(f) => adds_it(f, changes),
         _ => false,
     }
 }
 
 // Whether the number's tree is a fact that the changes delete, or the negation of one that they
 // add.
-fn is_broken(nodes: &Nodes, at: usize, dels: &[Fact], adds: &[Fact]) -> bool
+fn is_broken(nodes: &Nodes, at: usize, changes: &FactChanges) -> bool
     requires { at < length (trees nodes.now) }
-    ensures { IsTrue result → LeavesTruth false (tree_at (trees nodes.now) at) dels.now adds.now }
+    ensures { IsTrue result → LeavesAfter false (tree_at (trees nodes.now) at) changes.now }
 {
     match nodes.get(at) {
-        Node::Basic(f) => deletes(f, dels, adds),
-        Node::Not(part) => is_made(nodes, *part, dels, adds),
+        Node::Basic(f) => deletes(f, changes),
+        Node::Not(part) => is_made(nodes, *part, changes),
         _ => false,
     }
 }
 
 // Whether one of the conjunction's parts is a fact that the changes delete, or the negation of one
 // that they add, seen by a look at each.
-fn is_seen_broken(
-    conjunction: &Conjunction<'_>,
-    changed: &Changed,
-    dels: &[Fact],
-    adds: &[Fact],
-) -> bool
+fn is_seen_broken(conjunction: &Conjunction<'_>, changed: &Changed, changes: &FactChanges) -> bool
     requires inside { conjunction.now.at < length (trees conjunction.now.nodes.now) }
-    requires below { all_below conjunction.now.at conjunction.now.parts.now ≡ true }
-    ensures { IsTrue result → OneLeavesFalse conjunction.now.nodes.now conjunction.now.parts.now dels.now adds.now }
+    requires below { IsTrue (all_below conjunction.now.at conjunction.now.parts.now) }
+    ensures { IsTrue result → OneLeavesFalse conjunction.now changes.now }
 {
     let nodes = conjunction.nodes;
     for part in conjunction.parts.as_slice().iter() {
-        if changed.may_break(nodes.mark(*part)) && is_broken(nodes, *part, dels, adds) {
+        if changed.may_break(nodes.mark(*part)) && is_broken(nodes, *part, changes) {
             return true;
         }
     }
@@ -143,16 +143,15 @@ fn is_found_broken(
     conjunction: &Conjunction<'_>,
     places: &PartPlaces,
     marks: &[u64],
-    dels: &[Fact],
-    adds: &[Fact],
+    changes: &FactChanges,
 ) -> bool
     requires inside { conjunction.now.at < length (trees conjunction.now.nodes.now) }
-    requires below { all_below conjunction.now.at conjunction.now.parts.now ≡ true }
-    ensures { IsTrue result → OneLeavesFalse conjunction.now.nodes.now conjunction.now.parts.now dels.now adds.now }
+    requires below { IsTrue (all_below conjunction.now.at conjunction.now.parts.now) }
+    ensures { IsTrue result → OneLeavesFalse conjunction.now changes.now }
 {
     for mark in marks.iter() {
         if let Some(part) = places.part(conjunction, *mark) {
-            if is_broken(conjunction.nodes, part, dels, adds) {
+            if is_broken(conjunction.nodes, part, changes) {
                 return true;
             }
         }
@@ -165,20 +164,19 @@ fn is_found_broken(
 fn is_one_broken(
     conjunction: &Conjunction<'_>,
     places: &mut PartPlaces,
-    dels: &[Fact],
-    adds: &[Fact],
+    changes: &FactChanges,
 ) -> bool
     requires inside { conjunction.now.at < length (trees conjunction.now.nodes.now) }
-    requires below { all_below conjunction.now.at conjunction.now.parts.now ≡ true }
-    ensures { IsTrue result → OneLeavesFalse conjunction.now.nodes.now conjunction.now.parts.now dels.now adds.now }
+    requires below { IsTrue (all_below conjunction.now.at conjunction.now.parts.now) }
+    ensures { IsTrue result → OneLeavesFalse conjunction.now changes.now }
 {
-    let changed = Changed::of(dels, adds);
+    let changed = Changed::of(changes.dels, changes.adds);
     if places.know(conjunction) {
         if let Some(marks) = changed.marks() {
-            return is_found_broken(conjunction, places, marks, dels, adds);
+            return is_found_broken(conjunction, places, marks, changes);
         }
     }
-    is_seen_broken(conjunction, &changed, dels, adds)
+    is_seen_broken(conjunction, &changed, changes)
 }
 
 /// Whether the changes of facts decide that the number's tree leaves FALSE in the world after them:
@@ -188,11 +186,10 @@ pub fn is_broken_by(
     nodes: &Nodes,
     id: usize,
     places: &mut PartPlaces,
-    dels: &[Fact],
-    adds: &[Fact],
+    changes: &FactChanges,
 ) -> bool
     requires { id < length (trees nodes.now) }
-    ensures { IsTrue result → LeavesTruth false (tree_at (trees nodes.now) id) dels.now adds.now }
+    ensures { IsTrue result → LeavesAfter false (tree_at (trees nodes.now) id) changes.now }
 {
     match nodes.get(id) {
         Node::And(parts) => {
@@ -201,8 +198,8 @@ pub fn is_broken_by(
                 at: id,
                 parts,
             };
-            is_one_broken(&conjunction, places, dels, adds)
+            is_one_broken(&conjunction, places, changes)
         }
-        _ => is_broken(nodes, id, dels, adds),
+        _ => is_broken(nodes, id, changes),
     }
 }

@@ -4,6 +4,7 @@ ghost use Rattle.tl_progress.specs.CallsHere.{truths_in, residuals_in};
 
 use crate::known::WorkedOut;
 use std::alloc::Global;
+use tl_nodes::Nodes;
 use tl_world::{Task, World};
 
 /// Where a call reads formulas: in a world of a task, with what it has worked out there.
@@ -17,6 +18,15 @@ pub(crate) struct Here<'t, 'w, 'k> {
     pub world: &'w World,
     /// What is known of numbers whose trees have no free variable, where something is.
     pub known: Option<&'k WorkedOut>,
+}
+
+/// Formulas by their numbers, and where a call reads them.
+#[derive(Clone, Copy)]
+pub(crate) struct FormulasHere<'h, 't, 'w, 'k, 'n> {
+    /// Where they are read.
+    pub here: &'h Here<'t, 'w, 'k>,
+    /// The formulas.
+    pub nodes: &'n Nodes,
 }
 
 impl Here<'_, '_, '_> {

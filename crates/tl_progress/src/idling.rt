@@ -3,10 +3,10 @@ ghost use Rattle.std.specs.Prelude.{◌≡◌, ◌↔◌, ◌<◌, length, IsTru
 ghost use Rattle.tl_nodes.specs.Numbers.{trees, tree_in};
 ghost use Rattle.tl_eval.specs.Faults.{IsCausedBy};
 ghost use Rattle.tl_progress.specs.Calls.{IsSentenceIn, HoldsIdly, looked_by_idling_at};
-ghost use Rattle.tl_progress.specs.CallsHere.{IsSentenceHere, RemembersHere, IsTruthAt, IsTruthFault};
+ghost use Rattle.tl_progress.specs.CallsHere.{IsSentenceAt, LeavesFrame, RemembersHere, IsTruthAt, IsTruthFault};
 
 use crate::frames::empty_frame;
-use crate::here::Here;
+use crate::here::{FormulasHere, Here};
 use crate::known::WorkedOut;
 use crate::order::reached;
 use crate::truth::truth_of;
@@ -18,31 +18,32 @@ use tl_world::{Task, World};
 /// The truth of a number's tree, which has no free variable. What it is made of outside of
 /// quantifiers is worked out before it.
 pub(crate) fn sentence_truth(
-    here: &Here,
-    nodes: &Nodes,
+    formulas: &FormulasHere,
     env: &mut Env,
     memory: &mut Memory,
     id: usize,
 ) -> Result<bool, EvalFault>
-    requires id { id < length (trees nodes.now) }
-    requires sentence { IsSentenceHere here.now (tree_in nodes.now id) }
-    requires remembers { RemembersHere here.now memory.old }
-    ensures truth { IsTruthAt here.now env.old nodes.now id result }
-    ensures cause { IsTruthFault here.now env.old nodes.now id result }
-    ensures frame { env.new ≡ env.old }
-    ensures remembers { RemembersHere here.now memory.new }
+    requires there { IsSentenceAt formulas.now.here.now formulas.now.nodes.now id }
+    requires remembers { RemembersHere formulas.now.here.now memory.old }
+    ensures truth { IsTruthAt formulas.now env.old id result }
+    ensures cause { IsTruthFault formulas.now env.old id result }
+    ensures stays { LeavesFrame formulas.now.here.now env.old env.new memory.new }
 {
-    let mut order = reached(here.alloc, nodes, id, true)?;
-    let mut known = WorkedOut::new(here.alloc);
+    let mut order = reached(formulas.here.alloc, formulas.nodes, id, true)?;
+    let mut known = WorkedOut::new(formulas.here.alloc);
     while let Some(at) = order.pop() {
         let known_here = Some(&known);
         let so_far = Here {
-            alloc: here.alloc,
-            task: here.task,
-            world: here.world,
+            alloc: formulas.here.alloc,
+            task: formulas.here.task,
+            world: formulas.here.world,
             known: known_here,
         };
-        match truth_of(&so_far, nodes, env, memory, at) {
+        let formulas_so_far = FormulasHere {
+            here: &so_far,
+            nodes: formulas.nodes,
+        };
+        match truth_of(&formulas_so_far, env, memory, at) {
             Ok(truth) => {
                 known.truths.insert(at, truth)?;
             }
@@ -51,12 +52,16 @@ pub(crate) fn sentence_truth(
     }
     let known_here = Some(&known);
     let so_far = Here {
-        alloc: here.alloc,
-        task: here.task,
-        world: here.world,
+        alloc: formulas.here.alloc,
+        task: formulas.here.task,
+        world: formulas.here.world,
         known: known_here,
     };
-    truth_of(&so_far, nodes, env, memory, id)
+    let formulas_so_far = FormulasHere {
+        here: &so_far,
+        nodes: formulas.nodes,
+    };
+    truth_of(&formulas_so_far, env, memory, id)
 }
 
 /// Whether the number's tree holds where the world is repeated for ever (the idling check, Bacchus
@@ -85,8 +90,9 @@ pub fn idle(
         world: w,
         known: None,
     };
+    let formulas = FormulasHere { here: &here, nodes };
     let mut memory = env.lend_memory(alloc);
-    let answer = sentence_truth(&here, nodes, env, &mut memory, id);
+    let answer = sentence_truth(&formulas, env, &mut memory, id);
     env.take_back(memory);
     env.restore(&frame);
     answer

@@ -1,16 +1,16 @@
 // What has to hold next for a conjunction or a disjunction without free variables, from its parts
 // with temporal words: the others are read first, and most residuals that prune a search are
 // decided by one of them.
-ghost use Rattle.std.specs.Prelude.{◌≡◌, ◌<◌, length, false};
+ghost use Rattle.std.specs.Prelude.{◌≡◌, false};
 ghost use Rattle.tl_nodes.specs.Numbering.{Keeps};
 ghost use Rattle.tl_nodes.specs.Numbers.{trees, tree_in};
-ghost use Rattle.tl_progress.specs.CallsHere.{IsSentenceHere, KnowsTruths, KeepsRightlyHere, RemembersHere, IsNextConstant, IsResidual, IsResidualFault, IsDecidedEarly, AreOpenParts, IsOpenResidual};
+ghost use Rattle.tl_progress.specs.CallsHere.{IsSentenceAt, KnowsTruths, KeepsRightlyHere, LeavesFrame, RemembersHere, IsNextConstant, IsNextFault, IsResidual, IsResidualFault, IsDecidedEarly, AreOpenParts, IsOpenResidual};
 ghost use Rattle.tl_progress.specs.KeptResiduals.{StaysElsewhere};
 ghost use Rattle.tl_progress.specs.Parts.{IsBelow, IsJoin};
 ghost use Rattle.tl_syntax.specs.Lists.{Each};
 ghost use Rattle.tl_syntax.specs.StateFormulas.{IsState};
 
-use crate::here::Here;
+use crate::here::{FormulasHere, Here};
 use crate::idling::sentence_truth;
 use crate::joins::{constant_number, decides, gather, join};
 use crate::numbers::Numbers;
@@ -46,61 +46,55 @@ struct OpenParts<'p> {
 
 // The truth of a number's tree, which has neither a temporal word nor a free variable.
 fn state_part(
-    here: &Here,
-    nodes: &Nodes,
+    formulas: &FormulasHere,
     env: &mut Env,
     memory: &mut Memory,
     part: usize,
 ) -> Result<bool, EvalFault>
-    requires part { part < length (trees nodes.now) }
-    requires sentence { IsSentenceHere here.now (tree_in nodes.now part) }
-    requires state { IsState (tree_in nodes.now part) }
-    requires known { KnowsTruths here.now nodes.now }
-    requires remembers { RemembersHere here.now memory.old }
-    ensures truth { IsNextConstant here.now env.old nodes.now part result }
-    ensures cause { IsResidualFault here.now env.old nodes.now part result }
-    ensures frame { env.new ≡ env.old }
-    ensures remembers { RemembersHere here.now memory.new }
+    requires there { IsSentenceAt formulas.now.here.now formulas.now.nodes.now part }
+    requires state { IsState (tree_in formulas.now.nodes.now part) }
+    requires known { KnowsTruths formulas.now.here.now formulas.now.nodes.now }
+    requires remembers { RemembersHere formulas.now.here.now memory.old }
+    ensures truth { IsNextConstant formulas.now env.old part result }
+    ensures cause { IsNextFault formulas.now env.old part result }
+    ensures stays { LeavesFrame formulas.now.here.now env.old env.new memory.new }
 {
-    match nodes.get(part) {
-        Node::Basic(f) => return basic_truth(here, env, memory, f),
+    match formulas.nodes.get(part) {
+        Node::Basic(f) => return basic_truth(formulas.here, env, memory, f),
         _ => {}
     }
-    if is_shallow(nodes, part) {
-        return truth_of(here, nodes, env, memory, part);
+    if is_shallow(formulas.nodes, part) {
+        return truth_of(formulas, env, memory, part);
     }
-    sentence_truth(here, nodes, env, memory, part)
+    sentence_truth(formulas, env, memory, part)
 }
 
 // The parts with temporal words, by a memory for the truths of definitions in this world: None
 // where one of the others decides the join.
 fn remembering_open_parts(
-    here: &Here,
-    nodes: &Nodes,
+    formulas: &FormulasHere,
     env: &mut Env,
     memory: &mut Memory,
     joined: Joined,
 ) -> Result<Option<Numbers>, EvalFault>
-    requires at { joined.at < length (trees nodes.now) }
-    requires join { IsJoin joined.junction (tree_in nodes.now joined.at) }
-    requires sentence { IsSentenceHere here.now (tree_in nodes.now joined.at) }
-    requires known { KnowsTruths here.now nodes.now }
-    requires remembers { RemembersHere here.now memory.old }
-    ensures decided { IsDecidedEarly here.now env.old nodes.now joined result }
-    ensures parts { AreOpenParts here.now env.old nodes.now joined result }
-    ensures cause { IsResidualFault here.now env.old nodes.now joined.at result }
-    ensures frame { env.new ≡ env.old }
-    ensures remembers { RemembersHere here.now memory.new }
+    requires there { IsSentenceAt formulas.now.here.now formulas.now.nodes.now joined.at }
+    requires join { IsJoin joined.junction (tree_in formulas.now.nodes.now joined.at) }
+    requires known { KnowsTruths formulas.now.here.now formulas.now.nodes.now }
+    requires remembers { RemembersHere formulas.now.here.now memory.old }
+    ensures decided { IsDecidedEarly formulas.now env.old joined result }
+    ensures parts { AreOpenParts formulas.now env.old joined result }
+    ensures cause { IsNextFault formulas.now env.old joined.at result }
+    ensures stays { LeavesFrame formulas.now.here.now env.old env.new memory.new }
 {
     let stop = joined.junction.deciding_truth();
-    let mut parts = Numbers::new(here.alloc);
-    for i in 0..part_count(nodes, joined.at) {
-        let part = part_at(nodes, joined.at, i);
-        if nodes.temporal(part) {
+    let mut parts = Numbers::new(formulas.here.alloc);
+    for i in 0..part_count(formulas.nodes, joined.at) {
+        let part = part_at(formulas.nodes, joined.at, i);
+        if formulas.nodes.temporal(part) {
             parts.push(part)?;
             continue;
         }
-        match state_part(here, nodes, env, memory, part) {
+        match state_part(formulas, env, memory, part) {
             Ok(truth) => {
                 if truth == stop {
                     return Ok(None);
@@ -114,27 +108,29 @@ fn remembering_open_parts(
 
 // The parts with temporal words: None where one of the others decides the join.
 fn open_parts(
-    here: &Here,
-    nodes: &Nodes,
+    formulas: &FormulasHere,
     env: &mut Env,
     joined: Joined,
 ) -> Result<Option<Numbers>, EvalFault>
-    requires at { joined.at < length (trees nodes.now) }
-    requires join { IsJoin joined.junction (tree_in nodes.now joined.at) }
-    requires sentence { IsSentenceHere here.now (tree_in nodes.now joined.at) }
-    ensures decided { IsDecidedEarly here.now env.old nodes.now joined result }
-    ensures parts { AreOpenParts here.now env.old nodes.now joined result }
-    ensures cause { IsResidualFault here.now env.old nodes.now joined.at result }
+    requires there { IsSentenceAt formulas.now.here.now formulas.now.nodes.now joined.at }
+    requires join { IsJoin joined.junction (tree_in formulas.now.nodes.now joined.at) }
+    ensures decided { IsDecidedEarly formulas.now env.old joined result }
+    ensures parts { AreOpenParts formulas.now env.old joined result }
+    ensures cause { IsNextFault formulas.now env.old joined.at result }
     ensures frame { env.new ≡ env.old }
 {
     let anew = Here {
-        alloc: here.alloc,
-        task: here.task,
-        world: here.world,
+        alloc: formulas.here.alloc,
+        task: formulas.here.task,
+        world: formulas.here.world,
         known: None,
     };
-    let mut memory = env.lend_memory(here.alloc);
-    let answer = remembering_open_parts(&anew, nodes, env, &mut memory, joined);
+    let formulas_anew = FormulasHere {
+        here: &anew,
+        nodes: formulas.nodes,
+    };
+    let mut memory = env.lend_memory(formulas.here.alloc);
+    let answer = remembering_open_parts(&formulas_anew, env, &mut memory, joined);
     env.take_back(memory);
     answer
 }
@@ -148,8 +144,7 @@ pub(crate) fn kept_residual(
     residuals: &mut Residuals,
     incoming: Incoming,
 ) -> Result<usize, EvalFault>
-    requires at { incoming.formula < length (trees nodes.old) }
-    requires sentence { IsSentenceHere here.now (tree_in nodes.old incoming.formula) }
+    requires there { IsSentenceAt here.now nodes.old incoming.formula }
     requires found { KeepsRightlyHere here.now nodes.old residuals.old incoming.world }
     ensures kept { Keeps (trees nodes.old) (trees nodes.new) }
     ensures number { IsResidual here.now env.old nodes.old incoming.formula nodes.new result }
@@ -183,8 +178,7 @@ fn parts_residual(
     residuals: &mut Residuals,
     rest: &OpenParts,
 ) -> Result<usize, EvalFault>
-    requires at { rest.now.joined.at < length (trees nodes.old) }
-    requires sentence { IsSentenceHere here.now (tree_in nodes.old rest.now.joined.at) }
+    requires there { IsSentenceAt here.now nodes.old rest.now.joined.at }
     requires below { Each (IsBelow false (trees nodes.old) rest.now.joined.at) rest.now.parts.now }
     requires found { KeepsRightlyHere here.now nodes.old residuals.old rest.now.joined.world }
     ensures kept { Keeps (trees nodes.old) (trees nodes.new) }
@@ -222,9 +216,8 @@ pub(crate) fn joined_residual(
     residuals: &mut Residuals,
     joined: Joined,
 ) -> Result<usize, EvalFault>
-    requires at { joined.at < length (trees nodes.old) }
+    requires there { IsSentenceAt here.now nodes.old joined.at }
     requires join { IsJoin joined.junction (tree_in nodes.old joined.at) }
-    requires sentence { IsSentenceHere here.now (tree_in nodes.old joined.at) }
     requires found { KeepsRightlyHere here.now nodes.old residuals.old joined.world }
     ensures kept { Keeps (trees nodes.old) (trees nodes.new) }
     ensures number { IsResidual here.now env.old nodes.old joined.at nodes.new result }
@@ -233,7 +226,11 @@ pub(crate) fn joined_residual(
     ensures cause { IsResidualFault here.now env.old nodes.old joined.at result }
     ensures frame { env.new ≡ env.old }
 {
-    match open_parts(here, nodes, env, joined) {
+    let formulas = FormulasHere {
+        here,
+        nodes: &*nodes,
+    };
+    match open_parts(&formulas, env, joined) {
         Ok(Some(parts)) => {
             let rest = OpenParts {
                 joined,

@@ -1,5 +1,5 @@
 // Joins of numbers.
-ghost use Rattle.std.specs.Prelude.{◌≡◌, ◌<◌, true, length, IsTrue, OnOk};
+ghost use Rattle.std.specs.Prelude.{◌≡◌, ◌<◌, length, IsTrue, OnOk};
 ghost use Rattle.tl_nodes.specs.Fits.{all_below};
 ghost use Rattle.tl_nodes.specs.Given.{join_of, GivesNumber};
 ghost use Rattle.tl_nodes.specs.Numbering.{Keeps};
@@ -48,9 +48,9 @@ pub(crate) fn gather(
     part: usize,
     junction: Junction,
 ) -> Result<(), NoMemory>
-    requires parts { all_below (length (trees nodes.now)) parts.old ≡ true }
+    requires parts { IsTrue (all_below (length (trees nodes.now)) parts.old) }
     requires part { part < length (trees nodes.now) }
-    ensures below { OnOk result (all_below (length (trees nodes.now)) parts.new ≡ true) }
+    ensures below { OnOk result (IsTrue (all_below (length (trees nodes.now)) parts.new)) }
     ensures same { OnOk result (GathersPart nodes.now junction parts.old part parts.new) }
 {
     if is_constant(nodes, part, !junction.deciding_truth()) {
@@ -66,7 +66,7 @@ pub(crate) fn join(
     parts: &[usize],
     junction: Junction,
 ) -> Result<usize, NoMemory>
-    requires { all_below (length (trees nodes.old)) parts.now ≡ true }
+    requires { IsTrue (all_below (length (trees nodes.old)) parts.now) }
     ensures kept { Keeps (trees nodes.old) (trees nodes.new) }
     ensures number { GivesNumber nodes.new (join_of nodes.old junction parts.now) result }
 {

@@ -6,6 +6,7 @@ mod broken;
 mod by_world;
 mod changed;
 mod early;
+mod fact_changes;
 mod few_bindings;
 mod frames;
 mod here;
@@ -28,6 +29,7 @@ mod substitution;
 mod truth;
 
 pub use broken::is_broken_by;
+pub use fact_changes::FactChanges;
 pub use idling::idle;
 pub use part_places::PartPlaces;
 pub use progression::{progress, progress_kept};

@@ -3,13 +3,13 @@ ghost use Rattle.std.specs.Prelude.{◌≡◌, ◌<◌, length, IfOk, OnOk};
 ghost use Rattle.tl_nodes.specs.Numbering.{Keeps};
 ghost use Rattle.tl_nodes.specs.Numbers.{trees, tree_in};
 ghost use Rattle.tl_progress.specs.Calls.{IsSentenceIn, KeepsRightly, IsProgressed, IsProgressFault, GivesProgression, StaysNamed, AddsNoTree};
-ghost use Rattle.tl_progress.specs.CallsHere.{IsSentenceHere, AreRightHere, KnowsRightly, KeepsRightlyHere, RemembersHere, IsResidual, IsResidualFault};
+ghost use Rattle.tl_progress.specs.CallsHere.{IsSentenceAt, AreRightHere, KnowsRightly, KeepsRightlyHere, LeavesFrame, RemembersHere, IsResidual, IsResidualFault};
 ghost use Rattle.tl_progress.specs.KeptResiduals.{StaysElsewhere};
 ghost use Rattle.tl_syntax.specs.StateFormulas.{IsState};
 
 use crate::early::early_residual;
 use crate::frames::{empty_frame, is_empty_frame};
-use crate::here::Here;
+use crate::here::{FormulasHere, Here};
 use crate::idling::sentence_truth;
 use crate::joined::{Joined, joined_residual, kept_residual};
 use crate::joins::constant_number;
@@ -34,15 +34,13 @@ fn work_out(
     known: &mut WorkedOut,
     at: usize,
 ) -> Result<(), EvalFault>
-    requires at { at < length (trees nodes.old) }
-    requires sentence { IsSentenceHere here.now (tree_in nodes.old at) }
+    requires there { IsSentenceAt here.now nodes.old at }
     requires known { AreRightHere here.now nodes.old known.old }
     requires remembers { RemembersHere here.now memory.old }
     ensures kept { Keeps (trees nodes.old) (trees nodes.new) }
     ensures known { OnOk result (AreRightHere here.now nodes.new known.new) }
     ensures cause { IsResidualFault here.now env.old nodes.old at result }
-    ensures frame { env.new ≡ env.old }
-    ensures remembers { RemembersHere here.now memory.new }
+    ensures stays { LeavesFrame here.now env.old env.new memory.new }
 {
     let known_here = Some(&*known);
     let so_far = Here {
@@ -60,7 +58,11 @@ fn work_out(
             Err(fault) => Err(fault),
         }
     } else {
-        match truth_of(&so_far, nodes, env, memory, at) {
+        let formulas = FormulasHere {
+            here: &so_far,
+            nodes: &*nodes,
+        };
+        match truth_of(&formulas, env, memory, at) {
             Ok(truth) => {
                 known.truths.insert(at, truth)?;
                 Ok(())
@@ -79,14 +81,12 @@ fn ordered_residual(
     memory: &mut Memory,
     id: usize,
 ) -> Result<usize, EvalFault>
-    requires id { id < length (trees nodes.old) }
-    requires sentence { IsSentenceHere here.now (tree_in nodes.old id) }
+    requires there { IsSentenceAt here.now nodes.old id }
     requires remembers { RemembersHere here.now memory.old }
     ensures kept { Keeps (trees nodes.old) (trees nodes.new) }
     ensures number { IsResidual here.now env.old nodes.old id nodes.new result }
     ensures cause { IsResidualFault here.now env.old nodes.old id result }
-    ensures frame { env.new ≡ env.old }
-    ensures remembers { RemembersHere here.now memory.new }
+    ensures stays { LeavesFrame here.now env.old env.new memory.new }
 {
     let mut order = reached(here.alloc, nodes, id, false)?;
     let mut known = WorkedOut::new(here.alloc);
@@ -116,20 +116,22 @@ fn remembering_residual(
     memory: &mut Memory,
     id: usize,
 ) -> Result<usize, EvalFault>
-    requires id { id < length (trees nodes.old) }
-    requires sentence { IsSentenceHere here.now (tree_in nodes.old id) }
+    requires there { IsSentenceAt here.now nodes.old id }
     requires known { KnowsRightly here.now nodes.old }
     requires remembers { RemembersHere here.now memory.old }
     ensures kept { Keeps (trees nodes.old) (trees nodes.new) }
     ensures number { IsResidual here.now env.old nodes.old id nodes.new result }
     ensures cause { IsResidualFault here.now env.old nodes.old id result }
-    ensures frame { env.new ≡ env.old }
-    ensures remembers { RemembersHere here.now memory.new }
+    ensures stays { LeavesFrame here.now env.old env.new memory.new }
 {
     if is_direct(nodes, id) {
         return residual_of(here, nodes, env, memory, id);
     }
-    match early_residual(here, nodes, env, memory, id) {
+    let formulas = FormulasHere {
+        here,
+        nodes: &*nodes,
+    };
+    match early_residual(&formulas, env, memory, id) {
         Ok(Some(number)) => Ok(number),
         Ok(None) => ordered_residual(here, nodes, env, memory, id),
         Err(fault) => Err(fault),
@@ -145,8 +147,7 @@ pub(crate) fn temporal_residual(
     env: &mut Env,
     id: usize,
 ) -> Result<usize, EvalFault>
-    requires id { id < length (trees nodes.old) }
-    requires sentence { IsSentenceHere here.now (tree_in nodes.old id) }
+    requires there { IsSentenceAt here.now nodes.old id }
     ensures kept { Keeps (trees nodes.old) (trees nodes.new) }
     ensures number { IsResidual here.now env.old nodes.old id nodes.new result }
     ensures cause { IsResidualFault here.now env.old nodes.old id result }
@@ -172,8 +173,7 @@ fn constant_residual(
     env: &mut Env,
     id: usize,
 ) -> Result<usize, EvalFault>
-    requires id { id < length (trees nodes.now) }
-    requires sentence { IsSentenceHere here.now (tree_in nodes.now id) }
+    requires there { IsSentenceAt here.now nodes.now id }
     requires state { IsState (tree_in nodes.now id) }
     ensures number { IsResidual here.now env.old nodes.now id nodes.now result }
     ensures constant { IfOk result (λ i. i < 2) }
@@ -186,8 +186,9 @@ fn constant_residual(
         world: here.world,
         known: None,
     };
+    let formulas = FormulasHere { here: &anew, nodes };
     let mut memory = env.lend_memory(here.alloc);
-    let answer = sentence_truth(&anew, nodes, env, &mut memory, id);
+    let answer = sentence_truth(&formulas, env, &mut memory, id);
     env.take_back(memory);
     match answer {
         Ok(truth) => Ok(constant_number(nodes, truth)),
@@ -204,8 +205,7 @@ fn sentence_residual(
     residuals: &mut Residuals,
     incoming: Incoming,
 ) -> Result<usize, EvalFault>
-    requires at { incoming.formula < length (trees nodes.old) }
-    requires sentence { IsSentenceHere here.now (tree_in nodes.old incoming.formula) }
+    requires there { IsSentenceAt here.now nodes.old incoming.formula }
     requires found { KeepsRightlyHere here.now nodes.old residuals.old incoming.world }
     ensures kept { Keeps (trees nodes.old) (trees nodes.new) }
     ensures number { IsResidual here.now env.old nodes.old incoming.formula nodes.new result }

@@ -3,12 +3,12 @@ ghost use Rattle.std.specs.Prelude.{◌≡◌, ◌<◌, length, None, IfOk};
 ghost use Rattle.tl_eval.specs.Frames.{ChangesOnly};
 ghost use Rattle.tl_nodes.specs.Numbering.{Keeps};
 ghost use Rattle.tl_nodes.specs.Numbers.{trees, tree_in};
-ghost use Rattle.tl_progress.specs.CallsHere.{FitsHere, KnowsTruths, KnowsRightly, RemembersHere, IsResidual, IsResidualFault, ReadsInstances};
+ghost use Rattle.tl_progress.specs.CallsHere.{FitsHere, KnowsTruths, KnowsRightly, LeavesFrame, RemembersHere, IsResidual, IsResidualFault, ReadsInstances};
 ghost use Rattle.tl_progress.specs.Parts.{IsJoin};
 ghost use Rattle.tl_progress.specs.Quantifiers.{Stands, vars_at};
 ghost use Rattle.tl_syntax.specs.StateFormulas.{IsState};
 
-use crate::here::Here;
+use crate::here::{FormulasHere, Here};
 use crate::joins::{constant_number, decides, gather, join};
 use crate::layers::JoinAt;
 use crate::numbers::Numbers;
@@ -41,10 +41,10 @@ pub(crate) fn state_residual(
     ensures number { IsResidual here.now env.old nodes.now at nodes.now result }
     ensures constant { IfOk result (λ i. i < 2) }
     ensures cause { IsResidualFault here.now env.old nodes.now at result }
-    ensures frame { env.new ≡ env.old }
-    ensures remembers { RemembersHere here.now memory.new }
+    ensures stays { LeavesFrame here.now env.old env.new memory.new }
 {
-    match part_truth(here, nodes, env, memory, at) {
+    let formulas = FormulasHere { here, nodes };
+    match part_truth(&formulas, env, memory, at) {
         Ok(truth) => Ok(constant_number(nodes, truth)),
         Err(fault) => Err(fault),
     }
@@ -67,8 +67,7 @@ pub(crate) fn residual_of(
     ensures kept { Keeps (trees nodes.old) (trees nodes.new) }
     ensures number { IsResidual here.now env.old nodes.old at nodes.new result }
     ensures cause { IsResidualFault here.now env.old nodes.old at result }
-    ensures frame { env.new ≡ env.old }
-    ensures remembers { RemembersHere here.now memory.new }
+    ensures stays { LeavesFrame here.now env.old env.new memory.new }
 {
     if !nodes.temporal(at) {
         return state_residual(here, nodes, env, memory, at);
@@ -96,8 +95,7 @@ fn layer_residual(
     ensures kept { Keeps (trees nodes.old) (trees nodes.new) }
     ensures number { IsResidual here.now env.old nodes.old at nodes.new result }
     ensures cause { IsResidualFault here.now env.old nodes.old at result }
-    ensures frame { env.new ≡ env.old }
-    ensures remembers { RemembersHere here.now memory.new }
+    ensures stays { LeavesFrame here.now env.old env.new memory.new }
 {
     match nodes.get(at) {
         Node::True => state_residual(here, nodes, env, memory, at),
@@ -228,8 +226,7 @@ fn join_residual(
     ensures kept { Keeps (trees nodes.old) (trees nodes.new) }
     ensures number { IsResidual here.now env.old nodes.old whole.at nodes.new result }
     ensures cause { IsResidualFault here.now env.old nodes.old whole.at result }
-    ensures frame { env.new ≡ env.old }
-    ensures remembers { RemembersHere here.now memory.new }
+    ensures stays { LeavesFrame here.now env.old env.new memory.new }
 {
     let mut answers = Numbers::new(here.alloc);
     for i in 0..part_count(nodes, whole.at) {
@@ -266,8 +263,7 @@ fn quantifier_residual(
     ensures kept { Keeps (trees nodes.old) (trees nodes.new) }
     ensures number { IsResidual here.now env.old nodes.old quantifier.at nodes.new result }
     ensures cause { IsResidualFault here.now env.old nodes.old quantifier.at result }
-    ensures frame { env.new ≡ env.old }
-    ensures remembers { RemembersHere here.now memory.new }
+    ensures stays { LeavesFrame here.now env.old env.new memory.new }
 {
     let mut pattern = BoundPattern::unopened(true);
     quantifier.open(nodes, here.task, env, &mut pattern);

@@ -12,7 +12,7 @@ use crate::numbers::{Found, Met, Numbers};
 use std::sync::ledger::Ledger;
 use tl_action::Here;
 use tl_eval::EvalFault;
-use tl_progress::is_broken_by;
+use tl_progress::{FactChanges, is_broken_by};
 use tl_search::{Arrival, SpaceFault};
 use tl_syntax::{Action, NoMemory};
 use tl_terms::Steps;
@@ -167,7 +167,8 @@ impl Space {
         }
         let dels = self.changes.dels.as_slice();
         let adds = self.changes.adds.as_slice();
-        if is_broken_by(&self.nodes, from.label, &mut self.places, dels, adds) {
+        let changes = FactChanges { dels, adds };
+        if is_broken_by(&self.nodes, from.label, &mut self.places, &changes) {
             return Ok(None);
         }
         match self.number_after(from.world) {

@@ -10,10 +10,10 @@ use Rattle.tl_progress.proofs.idling.sentence_truth.Given as goal
 
 abbrev pub invariant-loop-at : goal.invariant-loop-at
 invariant-loop-at l = record {
-  remembers : Remembered.AreTruths (plain_problem l.here.task.now.problem) l.here.world.now l.memory;
+  remembers : Remembered.AreTruths (plain_problem l.formulas.here.now.task.now.problem) l.formulas.here.now.world.now l.memory;
   frame : l.env ≡ l.fn.env;
-  order : Each (IsBelow true (trees l.nodes) l.id) l.order.items;
-  known : AreTruths (plain_problem l.here.task.now.problem) l.here.world.now (trees l.nodes) (get nat_eq l.known.truths);
+  order : Each (IsBelow true (trees l.formulas.nodes.now) l.id) l.order.items;
+  known : AreTruths (plain_problem l.formulas.here.now.task.now.problem) l.formulas.here.now.world.now (trees l.formulas.nodes.now) (get nat_eq l.known.truths);
 }
 
 abbrev pub decreases-loop-at : goal.decreases-loop-at

@@ -13,7 +13,7 @@ returns-in-Some-clause-number c = (c.requires.found c.args.incoming.formula c.in
 
 pub returns-in-Ok-keep-clause-found : goal.returns-in-Ok-keep-clause-found
 returns-in-Ok-keep-clause-found c =
-    residuals-more (plain_problem c.args.here.now.task.now.problem) c.args.here.now.world.now (assignment_in c.args.env.now) (trees c.args.nodes.now) c.args.incoming.formula c.requires.at c.requires.sentence.closed (trees c.temporal_residual.new.nodes) c.in-Ok.ensures.kept (found_in c.args.residuals.now c.args.incoming.world) (found_in c.keep.new.self c.args.incoming.world) c.in-Ok.number c.in-Ok-keep.ensures.kept c.in-Ok.ensures.number c.requires.found
+    residuals-more (plain_problem c.args.here.now.task.now.problem) c.args.here.now.world.now (assignment_in c.args.env.now) (trees c.args.nodes.now) c.args.incoming.formula c.requires.there.at c.requires.there.sentence.closed (trees c.temporal_residual.new.nodes) c.in-Ok.ensures.kept (found_in c.args.residuals.now c.args.incoming.world) (found_in c.keep.new.self c.args.incoming.world) c.in-Ok.number c.in-Ok-keep.ensures.kept c.in-Ok.ensures.number c.requires.found
 
 pub returns-in-Err-keep-clause-found : goal.returns-in-Err-keep-clause-found
 returns-in-Err-keep-clause-found c =

@@ -34,11 +34,13 @@ pub kept_residual-requires : goal.kept_residual-requires
 kept_residual-requires c =
     let low = each-at (IsBelow false (trees c.args.nodes.now) c.args.rest.now.joined.at) c.args.rest.now.parts.now c.loop-part.part-index c.loop-part-test.true c.requires.below in
     let under = low.under in
-    let inside : get_or c.args.rest.now.parts.now c.loop-part.part-index 0 < length (trees c.args.nodes.now) = omega (arith, under, c.requires.at) in
+    let inside : get_or c.args.rest.now.parts.now c.loop-part.part-index 0 < length (trees c.args.nodes.now) = omega (arith, under, c.requires.there.at) in
     let same = stays (trees c.args.nodes.now) (trees c.loop-part.nodes) c.loop-part.invariant.kept (get_or c.args.rest.now.parts.now c.loop-part.part-index 0) inside in
     record {
-      at = longer (trees c.args.nodes.now) (trees c.loop-part.nodes) c.loop-part.invariant.kept (get_or c.args.rest.now.parts.now c.loop-part.part-index 0) inside;
-      sentence = subst (IsSentence (signature_of c.args.here.now.task.now.problem.domain)) (sym same) (sentence-below (trees c.args.nodes.now) (signature_of c.args.here.now.task.now.problem.domain) c.args.rest.now.joined.at (get_or c.args.rest.now.parts.now c.loop-part.part-index 0) low c.requires.sentence);
+      there = record {
+        at = longer (trees c.args.nodes.now) (trees c.loop-part.nodes) c.loop-part.invariant.kept (get_or c.args.rest.now.parts.now c.loop-part.part-index 0) inside;
+        sentence = subst (IsSentence (signature_of c.args.here.now.task.now.problem.domain)) (sym same) (sentence-below (trees c.args.nodes.now) (signature_of c.args.here.now.task.now.problem.domain) c.args.rest.now.joined.at (get_or c.args.rest.now.parts.now c.loop-part.part-index 0) low c.requires.there.sentence);
+      };
       found = c.loop-part.invariant.found;
     }
 
@@ -52,7 +54,7 @@ pub returns-then-decides-clause-number : goal.returns-then-decides-clause-number
 returns-then-decides-clause-number c =
     let low = each-at (IsBelow false (trees c.args.nodes.now) c.args.rest.now.joined.at) c.args.rest.now.parts.now c.loop-part.part-index c.loop-part-test.true c.requires.below in
     let under = low.under in
-    let inside : get_or c.args.rest.now.parts.now c.loop-part.part-index 0 < length (trees c.args.nodes.now) = omega (arith, under, c.requires.at) in
+    let inside : get_or c.args.rest.now.parts.now c.loop-part.part-index 0 < length (trees c.args.nodes.now) = omega (arith, under, c.requires.there.at) in
     let same = stays (trees c.args.nodes.now) (trees c.loop-part.nodes) c.loop-part.invariant.kept (get_or c.args.rest.now.parts.now c.loop-part.part-index 0) inside in
     gather-decided c.args.rest.now.joined.junction (trees c.loop-part.nodes) (trees c.kept_residual.new.nodes) c.in-Ok.ensures.kept c.loop-part.answers ((residual (plain_problem c.args.here.now.task.now.problem) c.args.here.now.world.now (assignment_in c.args.env.now)) (tree_at (trees c.args.nodes.now) (get_or c.args.rest.now.parts.now c.loop-part.part-index 0))) (map (residual (plain_problem c.args.here.now.task.now.problem) c.args.here.now.world.now (assignment_in c.args.env.now)) (trees_at (trees c.args.nodes.now) (drop (c.loop-part.part-index + 1) c.args.rest.now.parts.now))) (map (residual (plain_problem c.args.here.now.task.now.problem) c.args.here.now.world.now (assignment_in c.args.env.now)) (trees_at (trees c.args.nodes.now) c.args.rest.now.parts.now))
     (subst (λ (fs : List FormulaTree). Gathered c.args.rest.now.joined.junction (trees c.loop-part.nodes) c.loop-part.answers fs (map (residual (plain_problem c.args.here.now.task.now.problem) c.args.here.now.world.now (assignment_in c.args.env.now)) (trees_at (trees c.args.nodes.now) c.args.rest.now.parts.now))) (ids-next (plain_problem c.args.here.now.task.now.problem) c.args.here.now.world.now (assignment_in c.args.env.now) (trees c.args.nodes.now) c.args.rest.now.parts.now c.loop-part.part-index c.loop-part-test.true) c.loop-part.invariant.passed) c.in-Ok.answer
@@ -69,7 +71,7 @@ pub gather-requires : goal.gather-requires
 gather-requires c =
     let low = each-at (IsBelow false (trees c.args.nodes.now) c.args.rest.now.joined.at) c.args.rest.now.parts.now c.loop-part.part-index c.loop-part-test.true c.requires.below in
     let under = low.under in
-    let inside : get_or c.args.rest.now.parts.now c.loop-part.part-index 0 < length (trees c.args.nodes.now) = omega (arith, under, c.requires.at) in
+    let inside : get_or c.args.rest.now.parts.now c.loop-part.part-index 0 < length (trees c.args.nodes.now) = omega (arith, under, c.requires.there.at) in
     let same = stays (trees c.args.nodes.now) (trees c.loop-part.nodes) c.loop-part.invariant.kept (get_or c.args.rest.now.parts.now c.loop-part.part-index 0) inside in
     record {
       parts = below-still c.args.rest.now.joined.junction (trees c.loop-part.nodes) (trees c.kept_residual.new.nodes) c.in-Ok.ensures.kept c.loop-part.answers ((residual (plain_problem c.args.here.now.task.now.problem) c.args.here.now.world.now (assignment_in c.args.env.now)) (tree_at (trees c.args.nodes.now) (get_or c.args.rest.now.parts.now c.loop-part.part-index 0))) (map (residual (plain_problem c.args.here.now.task.now.problem) c.args.here.now.world.now (assignment_in c.args.env.now)) (trees_at (trees c.args.nodes.now) (drop (c.loop-part.part-index + 1) c.args.rest.now.parts.now))) (map (residual (plain_problem c.args.here.now.task.now.problem) c.args.here.now.world.now (assignment_in c.args.env.now)) (trees_at (trees c.args.nodes.now) c.args.rest.now.parts.now))
@@ -82,7 +84,7 @@ pub loop-part-preserved : goal.loop-part-preserved
 loop-part-preserved c =
     let low = each-at (IsBelow false (trees c.args.nodes.now) c.args.rest.now.joined.at) c.args.rest.now.parts.now c.loop-part.part-index c.loop-part-test.true c.requires.below in
     let under = low.under in
-    let inside : get_or c.args.rest.now.parts.now c.loop-part.part-index 0 < length (trees c.args.nodes.now) = omega (arith, under, c.requires.at) in
+    let inside : get_or c.args.rest.now.parts.now c.loop-part.part-index 0 < length (trees c.args.nodes.now) = omega (arith, under, c.requires.there.at) in
     let same = stays (trees c.args.nodes.now) (trees c.loop-part.nodes) c.loop-part.invariant.kept (get_or c.args.rest.now.parts.now c.loop-part.part-index 0) inside in
     record {
       frame = c.kept_residual.ensures.frame ∙ c.loop-part.invariant.frame;
@@ -114,7 +116,7 @@ pub returns-in-Err-clause-cause : goal.returns-in-Err-clause-cause
 returns-in-Err-clause-cause c =
     let low = each-at (IsBelow false (trees c.args.nodes.now) c.args.rest.now.joined.at) c.args.rest.now.parts.now c.loop-part.part-index c.loop-part-test.true c.requires.below in
     let under = low.under in
-    let inside : get_or c.args.rest.now.parts.now c.loop-part.part-index 0 < length (trees c.args.nodes.now) = omega (arith, under, c.requires.at) in
+    let inside : get_or c.args.rest.now.parts.now c.loop-part.part-index 0 < length (trees c.args.nodes.now) = omega (arith, under, c.requires.there.at) in
     let same = stays (trees c.args.nodes.now) (trees c.loop-part.nodes) c.loop-part.invariant.kept (get_or c.args.rest.now.parts.now c.loop-part.part-index 0) inside in
     residual-fault (plain_problem c.args.here.now.task.now.problem) c.args.here.now.world.now (assignment_in c.args.env.now) (trees c.args.nodes.now) c.args.rest.now.joined.at (get_or c.args.rest.now.parts.now c.loop-part.part-index 0) low c.in-Err.fault
     (subst (λ (f : FormulaTree). IsCausedBy (looked_for_residual (plain_problem c.args.here.now.task.now.problem) c.args.here.now.world.now (assignment_in c.args.env.now) f) c.in-Err.fault) same

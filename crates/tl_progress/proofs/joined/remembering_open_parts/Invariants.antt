@@ -10,8 +10,8 @@ use Rattle.tl_progress.proofs.joined.remembering_open_parts.Given as goal
 
 abbrev pub invariant-loop-i : goal.invariant-loop-i
 invariant-loop-i l = record {
-  remembers : AreTruths (plain_problem l.here.task.now.problem) l.here.world.now l.memory;
+  remembers : AreTruths (plain_problem l.formulas.here.now.task.now.problem) l.formulas.here.now.world.now l.memory;
   frame : l.env ≡ l.fn.env;
-  below : Each (IsBelow false (trees l.nodes) l.joined.at) l.parts;
-  passed : Passed (plain_problem l.here.task.now.problem) l.here.world.now (assignment_in l.fn.env) (trees l.nodes) l.joined.at l.joined.junction l.parts l.i;
+  below : Each (IsBelow false (trees l.formulas.nodes.now) l.joined.at) l.parts;
+  passed : Passed (plain_problem l.formulas.here.now.task.now.problem) l.formulas.here.now.world.now (assignment_in l.fn.env) (trees l.formulas.nodes.now) l.joined.at l.joined.junction l.parts l.i;
 }

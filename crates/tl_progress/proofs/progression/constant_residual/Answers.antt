@@ -29,7 +29,7 @@ pub sentence_truth-answer-requires-clause-remembers : goal.sentence_truth-answer
 sentence_truth-answer-requires-clause-remembers c = subst (AreTruths (plain_problem c.args.here.now.task.now.problem) c.args.here.now.world.now) (sym c.lend_memory-memory.ensures.nothing) tt
 
 pub returns-in-Ok-clause-frame : goal.returns-in-Ok-clause-frame
-returns-in-Ok-clause-frame c = c.take_back.ensures.frame ∙ (c.sentence_truth-answer.ensures.frame ∙ c.lend_memory-memory.ensures.frame)
+returns-in-Ok-clause-frame c = c.take_back.ensures.frame ∙ (c.sentence_truth-answer.ensures.stays.frame ∙ c.lend_memory-memory.ensures.frame)
 
 pub returns-in-Err-clause-frame : goal.returns-in-Err-clause-frame
-returns-in-Err-clause-frame c = c.take_back.ensures.frame ∙ (c.sentence_truth-answer.ensures.frame ∙ c.lend_memory-memory.ensures.frame)
+returns-in-Err-clause-frame c = c.take_back.ensures.frame ∙ (c.sentence_truth-answer.ensures.stays.frame ∙ c.lend_memory-memory.ensures.frame)

@@ -25,4 +25,4 @@ returns-clause-cause c =
     subst (λ (v : List (Option Value)). IfErr c.remembering_residual-answer.result (IsCausedBy (looked_for_residual (plain_problem c.args.here.now.task.now.problem) c.args.here.now.world.now (assignment_in v) (tree_at (trees c.args.nodes.now) c.args.id)))) c.lend_memory-memory.ensures.frame c.remembering_residual-answer.ensures.cause
 
 pub returns-clause-frame : goal.returns-clause-frame
-returns-clause-frame c = c.take_back.ensures.frame ∙ (c.remembering_residual-answer.ensures.frame ∙ c.lend_memory-memory.ensures.frame)
+returns-clause-frame c = c.take_back.ensures.frame ∙ (c.remembering_residual-answer.ensures.stays.frame ∙ c.lend_memory-memory.ensures.frame)

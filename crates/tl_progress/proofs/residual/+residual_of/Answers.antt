@@ -102,7 +102,7 @@ layer_residual-returns-in_ok-number-in-Always-clause-kept t c = λ i f h. c.in_o
 
 pub layer_residual-returns-in_ok-number-in-Always-clause-number : goal.layer_residual-returns-in_ok-number-in-Always-clause-number
 layer_residual-returns-in_ok-number-in-Always-clause-number t c =
-    c.in_ok-number-in-Always.ensures.number ∙ ap (λ (f : FormulaTree). Some f) (next-Always (plain_problem c.args.here.now.task.now.problem) c.args.here.now.world.now (assignment_in c.args.env.now) (trees c.args.nodes.now) c.args.at c.get.result.now c.get.ensures.tree c.requires.at (trees c.residual_of-in-Always.new.nodes) c.in_ok-answer-in-Always.ensures.kept (assignment_in c.residual_of-in-Always.new.env) (ap assignment_in c.in_ok-answer-in-Always.ensures.frame) c.in-Always.part c.in_ok-answer-in-Always.answer c.in-Always.is c.in_ok-answer-in-Always.ensures.number)
+    c.in_ok-number-in-Always.ensures.number ∙ ap (λ (f : FormulaTree). Some f) (next-Always (plain_problem c.args.here.now.task.now.problem) c.args.here.now.world.now (assignment_in c.args.env.now) (trees c.args.nodes.now) c.args.at c.get.result.now c.get.ensures.tree c.requires.at (trees c.residual_of-in-Always.new.nodes) c.in_ok-answer-in-Always.ensures.kept (assignment_in c.residual_of-in-Always.new.env) (ap assignment_in c.in_ok-answer-in-Always.ensures.stays.frame) c.in-Always.part c.in_ok-answer-in-Always.answer c.in-Always.is c.in_ok-answer-in-Always.ensures.number)
 
 pub layer_residual-residual_of-requires-in-Eventually : goal.layer_residual-residual_of-requires-in-Eventually
 layer_residual-residual_of-requires-in-Eventually t c =
@@ -126,7 +126,7 @@ layer_residual-returns-in_ok-number-in-Eventually-clause-kept t c = λ i f h. c.
 
 pub layer_residual-returns-in_ok-number-in-Eventually-clause-number : goal.layer_residual-returns-in_ok-number-in-Eventually-clause-number
 layer_residual-returns-in_ok-number-in-Eventually-clause-number t c =
-    c.in_ok-number-in-Eventually.ensures.number ∙ ap (λ (f : FormulaTree). Some f) (next-Eventually (plain_problem c.args.here.now.task.now.problem) c.args.here.now.world.now (assignment_in c.args.env.now) (trees c.args.nodes.now) c.args.at c.get.result.now c.get.ensures.tree c.requires.at (trees c.residual_of-in-Eventually.new.nodes) c.in_ok-answer-in-Eventually.ensures.kept (assignment_in c.residual_of-in-Eventually.new.env) (ap assignment_in c.in_ok-answer-in-Eventually.ensures.frame) c.in-Eventually.part c.in_ok-answer-in-Eventually.answer c.in-Eventually.is c.in_ok-answer-in-Eventually.ensures.number)
+    c.in_ok-number-in-Eventually.ensures.number ∙ ap (λ (f : FormulaTree). Some f) (next-Eventually (plain_problem c.args.here.now.task.now.problem) c.args.here.now.world.now (assignment_in c.args.env.now) (trees c.args.nodes.now) c.args.at c.get.result.now c.get.ensures.tree c.requires.at (trees c.residual_of-in-Eventually.new.nodes) c.in_ok-answer-in-Eventually.ensures.kept (assignment_in c.residual_of-in-Eventually.new.env) (ap assignment_in c.in_ok-answer-in-Eventually.ensures.stays.frame) c.in-Eventually.part c.in_ok-answer-in-Eventually.answer c.in-Eventually.is c.in_ok-answer-in-Eventually.ensures.number)
 
 pub layer_residual-residual_of-requires-in-Until : goal.layer_residual-residual_of-requires-in-Until
 layer_residual-residual_of-requires-in-Until t c =
@@ -150,7 +150,7 @@ layer_residual-residual_of-requires-in-Until-2 t c =
     let low = part-lower false (trees c.args.nodes.now) c.args.at c.in-Until.first c.get.result.now c.get.ensures.tree c.get.ensures.parts (subst (λ n. Among c.in-Until.first (parts false n)) (sym c.in-Until.is) (inl refl)) in
     let less = low.less in
     let first : c.in-Until.first < length (trees c.args.nodes.now) = omega (arith, less, c.requires.at) in
-    (omega (arith, less, c.decreases), (longer (trees c.args.nodes.now) (trees c.residual_of-in-Until.new.nodes) c.in_ok-after-in-Until.ensures.kept c.in-Until.first first, (subst (FitsSomewhere (signature_of c.args.here.now.task.now.problem.domain)) (sym (stays (trees c.args.nodes.now) (trees c.residual_of-in-Until.new.nodes) c.in_ok-after-in-Until.ensures.kept c.in-Until.first first)) (fits-below false (trees c.args.nodes.now) (signature_of c.args.here.now.task.now.problem.domain) c.args.at c.in-Until.first low.below c.requires.fits), (knows-still c.args.here.now c.args.nodes.now c.residual_of-in-Until.new.nodes c.in_ok-after-in-Until.ensures.kept c.requires.known, c.residual_of-in-Until.ensures.remembers))))
+    (omega (arith, less, c.decreases), (longer (trees c.args.nodes.now) (trees c.residual_of-in-Until.new.nodes) c.in_ok-after-in-Until.ensures.kept c.in-Until.first first, (subst (FitsSomewhere (signature_of c.args.here.now.task.now.problem.domain)) (sym (stays (trees c.args.nodes.now) (trees c.residual_of-in-Until.new.nodes) c.in_ok-after-in-Until.ensures.kept c.in-Until.first first)) (fits-below false (trees c.args.nodes.now) (signature_of c.args.here.now.task.now.problem.domain) c.args.at c.in-Until.first low.below c.requires.fits), (knows-still c.args.here.now c.args.nodes.now c.residual_of-in-Until.new.nodes c.in_ok-after-in-Until.ensures.kept c.requires.known, c.residual_of-in-Until.ensures.stays.remembers))))
 
 pub layer_residual-returns-in_err-before-in-Until-clause-kept : goal.layer_residual-returns-in_err-before-in-Until-clause-kept
 layer_residual-returns-in_err-before-in-Until-clause-kept t c = λ i f h. c.in_err-before-in-Until.ensures.kept i f (c.in_ok-after-in-Until.ensures.kept i f h)
@@ -162,10 +162,10 @@ layer_residual-returns-in_err-before-in-Until-clause-cause t c =
     let first : c.in-Until.first < length (trees c.args.nodes.now) = omega (arith, less, c.requires.at) in
     handed-on _ _ _ c.from_residual-in_err-before-in-Until.ensures.1 (residual-fault (plain_problem c.args.here.now.task.now.problem) c.args.here.now.world.now (assignment_in c.args.env.now) (trees c.args.nodes.now) c.args.at c.in-Until.first low.below c.in_err-before-in-Until.field-0.0
     (subst (λ (f : FormulaTree). IsCausedBy (looked_for_residual (plain_problem c.args.here.now.task.now.problem) c.args.here.now.world.now (assignment_in c.args.env.now) f) c.in_err-before-in-Until.field-0.0) (stays (trees c.args.nodes.now) (trees c.residual_of-in-Until.new.nodes) c.in_ok-after-in-Until.ensures.kept c.in-Until.first first)
-    (subst (λ (v : List (Option Value)). IsCausedBy (looked_for_residual (plain_problem c.args.here.now.task.now.problem) c.args.here.now.world.now (assignment_in v) (tree_at (trees c.residual_of-in-Until.new.nodes) c.in-Until.first)) c.in_err-before-in-Until.field-0.0) c.in_ok-after-in-Until.ensures.frame c.in_err-before-in-Until.ensures.cause)))
+    (subst (λ (v : List (Option Value)). IsCausedBy (looked_for_residual (plain_problem c.args.here.now.task.now.problem) c.args.here.now.world.now (assignment_in v) (tree_at (trees c.residual_of-in-Until.new.nodes) c.in-Until.first)) c.in_err-before-in-Until.field-0.0) c.in_ok-after-in-Until.ensures.stays.frame c.in_err-before-in-Until.ensures.cause)))
 
-pub layer_residual-returns-in_err-before-in-Until-clause-frame : goal.layer_residual-returns-in_err-before-in-Until-clause-frame
-layer_residual-returns-in_err-before-in-Until-clause-frame t c = c.residual_of-in-Until-2.ensures.frame ∙ c.in_ok-after-in-Until.ensures.frame
+pub layer_residual-returns-in_err-before-in-Until-clause-stays : goal.layer_residual-returns-in_err-before-in-Until-clause-stays
+layer_residual-returns-in_err-before-in-Until-clause-stays t c = record { frame = c.residual_of-in-Until-2.ensures.stays.frame ∙ c.in_ok-after-in-Until.ensures.stays.frame; remembers = c.residual_of-in-Until-2.ensures.stays.remembers }
 
 pub layer_residual-residual_of-requires-in-Within : goal.layer_residual-residual_of-requires-in-Within
 layer_residual-residual_of-requires-in-Within t c =
@@ -207,8 +207,8 @@ layer_residual-returns-in_ok-number-in-Until-clause-number t c =
     let low = part-lower false (trees c.args.nodes.now) c.args.at c.in-Until.first c.get.result.now c.get.ensures.tree c.get.ensures.parts (subst (λ n. Among c.in-Until.first (parts false n)) (sym c.in-Until.is) (inl refl)) in
     let less = low.less in
     let first : c.in-Until.first < length (trees c.args.nodes.now) = omega (arith, less, c.requires.at) in
-    c.in_ok-number-in-Until.ensures.number ∙ ap (λ (f : FormulaTree). Some f) (next-Until (plain_problem c.args.here.now.task.now.problem) c.args.here.now.world.now (assignment_in c.args.env.now) (trees c.args.nodes.now) c.args.at c.get.result.now c.get.ensures.tree c.requires.at (trees c.residual_of-in-Until-2.new.nodes) (λ i f h. c.in_ok-before-in-Until.ensures.kept i f (c.in_ok-after-in-Until.ensures.kept i f h)) (assignment_in c.residual_of-in-Until-2.new.env) (ap assignment_in (c.in_ok-before-in-Until.ensures.frame ∙ c.in_ok-after-in-Until.ensures.frame)) c.in-Until.first c.in-Until.second c.in_ok-before-in-Until.before c.in_ok-after-in-Until.after c.in-Until.is
-    (subst (λ (f : FormulaTree). slice_get (trees c.residual_of-in-Until-2.new.nodes) c.in_ok-before-in-Until.before ≡ Some (residual (plain_problem c.args.here.now.task.now.problem) c.args.here.now.world.now (assignment_in c.args.env.now) f)) (stays (trees c.args.nodes.now) (trees c.residual_of-in-Until.new.nodes) c.in_ok-after-in-Until.ensures.kept c.in-Until.first first) (subst (λ (v : List (Option Value)). slice_get (trees c.residual_of-in-Until-2.new.nodes) c.in_ok-before-in-Until.before ≡ Some (residual (plain_problem c.args.here.now.task.now.problem) c.args.here.now.world.now (assignment_in v) (tree_at (trees c.residual_of-in-Until.new.nodes) c.in-Until.first))) c.in_ok-after-in-Until.ensures.frame c.in_ok-before-in-Until.ensures.number))
+    c.in_ok-number-in-Until.ensures.number ∙ ap (λ (f : FormulaTree). Some f) (next-Until (plain_problem c.args.here.now.task.now.problem) c.args.here.now.world.now (assignment_in c.args.env.now) (trees c.args.nodes.now) c.args.at c.get.result.now c.get.ensures.tree c.requires.at (trees c.residual_of-in-Until-2.new.nodes) (λ i f h. c.in_ok-before-in-Until.ensures.kept i f (c.in_ok-after-in-Until.ensures.kept i f h)) (assignment_in c.residual_of-in-Until-2.new.env) (ap assignment_in (c.in_ok-before-in-Until.ensures.stays.frame ∙ c.in_ok-after-in-Until.ensures.stays.frame)) c.in-Until.first c.in-Until.second c.in_ok-before-in-Until.before c.in_ok-after-in-Until.after c.in-Until.is
+    (subst (λ (f : FormulaTree). slice_get (trees c.residual_of-in-Until-2.new.nodes) c.in_ok-before-in-Until.before ≡ Some (residual (plain_problem c.args.here.now.task.now.problem) c.args.here.now.world.now (assignment_in c.args.env.now) f)) (stays (trees c.args.nodes.now) (trees c.residual_of-in-Until.new.nodes) c.in_ok-after-in-Until.ensures.kept c.in-Until.first first) (subst (λ (v : List (Option Value)). slice_get (trees c.residual_of-in-Until-2.new.nodes) c.in_ok-before-in-Until.before ≡ Some (residual (plain_problem c.args.here.now.task.now.problem) c.args.here.now.world.now (assignment_in v) (tree_at (trees c.residual_of-in-Until.new.nodes) c.in-Until.first))) c.in_ok-after-in-Until.ensures.stays.frame c.in_ok-before-in-Until.ensures.number))
     (c.in_ok-before-in-Until.ensures.kept _ _ c.in_ok-after-in-Until.ensures.number))
 
 pub layer_residual-with_fewer_steps-requires : goal.layer_residual-with_fewer_steps-requires
@@ -229,7 +229,7 @@ layer_residual-returns-in_ok-number-in-Within-clause-number t c =
     let low = part-lower false (trees c.args.nodes.now) c.args.at c.in-Within.part c.get.result.now c.get.ensures.tree c.get.ensures.parts (subst (λ n. Among c.in-Within.part (parts false n)) (sym c.in-Within.is) (inl refl)) in
     let less = low.less in
     let part : c.in-Within.part < length (trees c.args.nodes.now) = omega (arith, less, c.requires.at) in
-    c.in_ok-number-in-Within.ensures.number ∙ ap (λ (f : FormulaTree). Some f) (next-Within (plain_problem c.args.here.now.task.now.problem) c.args.here.now.world.now (assignment_in c.args.env.now) (trees c.args.nodes.now) c.args.at c.get.result.now c.get.ensures.tree c.requires.at (trees c.residual_of-in-Within.new.nodes) c.in_ok-answer-in-Within.ensures.kept (assignment_in c.residual_of-in-Within.new.env) (ap assignment_in c.in_ok-answer-in-Within.ensures.frame) c.in-Within.steps c.in-Within.part c.in_ok-answer-in-Within.answer part c.in-Within.is c.in_ok-answer-in-Within.ensures.number)
+    c.in_ok-number-in-Within.ensures.number ∙ ap (λ (f : FormulaTree). Some f) (next-Within (plain_problem c.args.here.now.task.now.problem) c.args.here.now.world.now (assignment_in c.args.env.now) (trees c.args.nodes.now) c.args.at c.get.result.now c.get.ensures.tree c.requires.at (trees c.residual_of-in-Within.new.nodes) c.in_ok-answer-in-Within.ensures.kept (assignment_in c.residual_of-in-Within.new.env) (ap assignment_in c.in_ok-answer-in-Within.ensures.stays.frame) c.in-Within.steps c.in-Within.part c.in_ok-answer-in-Within.answer part c.in-Within.is c.in_ok-answer-in-Within.ensures.number)
 
 pub layer_residual-with_fewer_steps-requires-in-During : goal.layer_residual-with_fewer_steps-requires-in-During
 layer_residual-with_fewer_steps-requires-in-During t c =
@@ -249,7 +249,7 @@ layer_residual-returns-in_ok-number-in-During-clause-number t c =
     let low = part-lower false (trees c.args.nodes.now) c.args.at c.in-During.part c.get.result.now c.get.ensures.tree c.get.ensures.parts (subst (λ n. Among c.in-During.part (parts false n)) (sym c.in-During.is) (inl refl)) in
     let less = low.less in
     let part : c.in-During.part < length (trees c.args.nodes.now) = omega (arith, less, c.requires.at) in
-    c.in_ok-number-in-During.ensures.number ∙ ap (λ (f : FormulaTree). Some f) (next-During (plain_problem c.args.here.now.task.now.problem) c.args.here.now.world.now (assignment_in c.args.env.now) (trees c.args.nodes.now) c.args.at c.get.result.now c.get.ensures.tree c.requires.at (trees c.residual_of-in-During.new.nodes) c.in_ok-answer-in-During.ensures.kept (assignment_in c.residual_of-in-During.new.env) (ap assignment_in c.in_ok-answer-in-During.ensures.frame) c.in-During.steps c.in-During.part c.in_ok-answer-in-During.answer part c.in-During.is c.in_ok-answer-in-During.ensures.number)
+    c.in_ok-number-in-During.ensures.number ∙ ap (λ (f : FormulaTree). Some f) (next-During (plain_problem c.args.here.now.task.now.problem) c.args.here.now.world.now (assignment_in c.args.env.now) (trees c.args.nodes.now) c.args.at c.get.result.now c.get.ensures.tree c.requires.at (trees c.residual_of-in-During.new.nodes) c.in_ok-answer-in-During.ensures.kept (assignment_in c.residual_of-in-During.new.env) (ap assignment_in c.in_ok-answer-in-During.ensures.stays.frame) c.in-During.steps c.in-During.part c.in_ok-answer-in-During.answer part c.in-During.is c.in_ok-answer-in-During.ensures.number)
 
 pub layer_residual-quantifier_residual-requires : goal.layer_residual-quantifier_residual-requires
 layer_residual-quantifier_residual-requires t c =
@@ -296,8 +296,8 @@ join_residual-returns-then-decides-clause-number t c =
     let low = part-among false (trees c.args.nodes.now) c.args.whole.at c.args.whole.junction c.requires.join c.loop-i.i c.part_at-part.result less there in
     gather-decided c.args.whole.junction (trees c.loop-i.nodes) (trees c.residual_of.new.nodes) c.in-Ok.ensures.kept c.loop-i.answers ((residual (plain_problem c.args.here.now.task.now.problem) c.args.here.now.world.now (assignment_in c.args.env.now)) (tree_at (trees c.args.nodes.now) c.part_at-part.result)) (map (residual (plain_problem c.args.here.now.task.now.problem) c.args.here.now.world.now (assignment_in c.args.env.now)) (drop (c.loop-i.i + 1) (join_parts (tree_at (trees c.args.nodes.now) c.args.whole.at)))) (map (residual (plain_problem c.args.here.now.task.now.problem) c.args.here.now.world.now (assignment_in c.args.env.now)) (join_parts (tree_at (trees c.args.nodes.now) c.args.whole.at))) (subst (λ (fs : List FormulaTree). Gathered c.args.whole.junction (trees c.loop-i.nodes) c.loop-i.answers fs (map (residual (plain_problem c.args.here.now.task.now.problem) c.args.here.now.world.now (assignment_in c.args.env.now)) (join_parts (tree_at (trees c.args.nodes.now) c.args.whole.at)))) (part-next (residual (plain_problem c.args.here.now.task.now.problem) c.args.here.now.world.now (assignment_in c.args.env.now)) (join_parts (tree_at (trees c.args.nodes.now) c.args.whole.at)) c.loop-i.i (tree_at (trees c.args.nodes.now) c.part_at-part.result) there) c.loop-i.invariant.passed) c.in-Ok.answer (subst (λ (f : FormulaTree). slice_get (trees c.residual_of.new.nodes) c.in-Ok.answer ≡ Some (residual (plain_problem c.args.here.now.task.now.problem) c.args.here.now.world.now (assignment_in c.args.env.now) f)) (stays (trees c.args.nodes.now) (trees c.loop-i.nodes) c.loop-i.invariant.kept c.part_at-part.result part) (subst (λ (v : List (Option Value)). slice_get (trees c.residual_of.new.nodes) c.in-Ok.answer ≡ Some (residual (plain_problem c.args.here.now.task.now.problem) c.args.here.now.world.now (assignment_in v) (tree_at (trees c.loop-i.nodes) c.part_at-part.result))) c.loop-i.invariant.frame c.in-Ok.ensures.number)) (c.decides.ensures c.if-decides.true) ∙ ap (λ (f : FormulaTree). Some f) (join-next (plain_problem c.args.here.now.task.now.problem) c.args.here.now.world.now (assignment_in c.args.env.now) c.args.whole.junction (tree_at (trees c.args.nodes.now) c.args.whole.at) c.requires.join)
 
-pub join_residual-returns-then-decides-clause-frame : goal.join_residual-returns-then-decides-clause-frame
-join_residual-returns-then-decides-clause-frame t c = c.residual_of.ensures.frame ∙ c.loop-i.invariant.frame
+pub join_residual-returns-then-decides-clause-stays : goal.join_residual-returns-then-decides-clause-stays
+join_residual-returns-then-decides-clause-stays t c = record { frame = c.residual_of.ensures.stays.frame ∙ c.loop-i.invariant.frame; remembers = c.residual_of.ensures.stays.remembers }
 
 pub join_residual-gather-requires : goal.join_residual-gather-requires
 join_residual-gather-requires t c = record {
@@ -317,8 +317,8 @@ join_residual-loop-i-preserved t c =
     let there = subst (λ (f : FormulaTree). slice_get (join_parts f) c.loop-i.i ≡ Some (tree_at (trees c.loop-i.nodes) c.part_at-part.result)) (stays (trees c.args.nodes.now) (trees c.loop-i.nodes) c.loop-i.invariant.kept c.args.whole.at c.requires.at) c.part_at-part.ensures.tree ∙ ap Some (stays (trees c.args.nodes.now) (trees c.loop-i.nodes) c.loop-i.invariant.kept c.part_at-part.result part) in
     let low = part-among false (trees c.args.nodes.now) c.args.whole.at c.args.whole.junction c.requires.join c.loop-i.i c.part_at-part.result less there in
     record {
-      remembers = c.residual_of.ensures.remembers;
-      frame = c.residual_of.ensures.frame ∙ c.loop-i.invariant.frame;
+      remembers = c.residual_of.ensures.stays.remembers;
+      frame = c.residual_of.ensures.stays.frame ∙ c.loop-i.invariant.frame;
       kept = λ i f h. c.in-Ok.ensures.kept i f (c.loop-i.invariant.kept i f h);
       passed = gather-on c.args.whole.junction (trees c.loop-i.nodes) (trees c.residual_of.new.nodes) c.in-Ok.ensures.kept c.loop-i.answers ((residual (plain_problem c.args.here.now.task.now.problem) c.args.here.now.world.now (assignment_in c.args.env.now)) (tree_at (trees c.args.nodes.now) c.part_at-part.result)) (map (residual (plain_problem c.args.here.now.task.now.problem) c.args.here.now.world.now (assignment_in c.args.env.now)) (drop (c.loop-i.i + 1) (join_parts (tree_at (trees c.args.nodes.now) c.args.whole.at)))) (map (residual (plain_problem c.args.here.now.task.now.problem) c.args.here.now.world.now (assignment_in c.args.env.now)) (join_parts (tree_at (trees c.args.nodes.now) c.args.whole.at))) (subst (λ (fs : List FormulaTree). Gathered c.args.whole.junction (trees c.loop-i.nodes) c.loop-i.answers fs (map (residual (plain_problem c.args.here.now.task.now.problem) c.args.here.now.world.now (assignment_in c.args.env.now)) (join_parts (tree_at (trees c.args.nodes.now) c.args.whole.at)))) (part-next (residual (plain_problem c.args.here.now.task.now.problem) c.args.here.now.world.now (assignment_in c.args.env.now)) (join_parts (tree_at (trees c.args.nodes.now) c.args.whole.at)) c.loop-i.i (tree_at (trees c.args.nodes.now) c.part_at-part.result) there) c.loop-i.invariant.passed) c.in-Ok.answer (subst (λ (f : FormulaTree). slice_get (trees c.residual_of.new.nodes) c.in-Ok.answer ≡ Some (residual (plain_problem c.args.here.now.task.now.problem) c.args.here.now.world.now (assignment_in c.args.env.now) f)) (stays (trees c.args.nodes.now) (trees c.loop-i.nodes) c.loop-i.invariant.kept c.part_at-part.result part) (subst (λ (v : List (Option Value)). slice_get (trees c.residual_of.new.nodes) c.in-Ok.answer ≡ Some (residual (plain_problem c.args.here.now.task.now.problem) c.args.here.now.world.now (assignment_in v) (tree_at (trees c.loop-i.nodes) c.part_at-part.result))) c.loop-i.invariant.frame c.in-Ok.ensures.number)) c.gather.new.parts c.in_ok-gather-in-Ok.ensures.below c.in_ok-gather-in-Ok.ensures.same;
     }
@@ -326,8 +326,8 @@ join_residual-loop-i-preserved t c =
 pub join_residual-returns-in_err-gather-in-Ok-clause-kept : goal.join_residual-returns-in_err-gather-in-Ok-clause-kept
 join_residual-returns-in_err-gather-in-Ok-clause-kept t c = λ i f h. c.in-Ok.ensures.kept i f (c.loop-i.invariant.kept i f h)
 
-pub join_residual-returns-in_err-gather-in-Ok-clause-frame : goal.join_residual-returns-in_err-gather-in-Ok-clause-frame
-join_residual-returns-in_err-gather-in-Ok-clause-frame t c = c.residual_of.ensures.frame ∙ c.loop-i.invariant.frame
+pub join_residual-returns-in_err-gather-in-Ok-clause-stays : goal.join_residual-returns-in_err-gather-in-Ok-clause-stays
+join_residual-returns-in_err-gather-in-Ok-clause-stays t c = record { frame = c.residual_of.ensures.stays.frame ∙ c.loop-i.invariant.frame; remembers = c.residual_of.ensures.stays.remembers }
 
 pub join_residual-returns-in-Err-clause-kept : goal.join_residual-returns-in-Err-clause-kept
 join_residual-returns-in-Err-clause-kept t c = λ i f h. c.in-Err.ensures.kept i f (c.loop-i.invariant.kept i f h)
@@ -342,8 +342,8 @@ join_residual-returns-in-Err-clause-cause t c =
     (subst (λ (f : FormulaTree). IsCausedBy (looked_for_residual (plain_problem c.args.here.now.task.now.problem) c.args.here.now.world.now (assignment_in c.args.env.now) f) c.in-Err.fault) (stays (trees c.args.nodes.now) (trees c.loop-i.nodes) c.loop-i.invariant.kept c.part_at-part.result part)
     (subst (λ (v : List (Option Value)). IsCausedBy (looked_for_residual (plain_problem c.args.here.now.task.now.problem) c.args.here.now.world.now (assignment_in v) (tree_at (trees c.loop-i.nodes) c.part_at-part.result)) c.in-Err.fault) c.loop-i.invariant.frame c.in-Err.ensures.cause))
 
-pub join_residual-returns-in-Err-clause-frame : goal.join_residual-returns-in-Err-clause-frame
-join_residual-returns-in-Err-clause-frame t c = c.residual_of.ensures.frame ∙ c.loop-i.invariant.frame
+pub join_residual-returns-in-Err-clause-stays : goal.join_residual-returns-in-Err-clause-stays
+join_residual-returns-in-Err-clause-stays t c = record { frame = c.residual_of.ensures.stays.frame ∙ c.loop-i.invariant.frame; remembers = c.residual_of.ensures.stays.remembers }
 
 pub join_residual-join-requires : goal.join_residual-join-requires
 join_residual-join-requires t c = subst (λ (ids : List ℕ). all_below (length (trees c.loop-i.nodes)) ids ≡ true) (sym c.as_slice.ensures) c.loop-i.invariant.passed.below
@@ -408,7 +408,7 @@ instances_residual-returns-in-Err-clause-cause t c =
 pub instances_residual-returns-in-Err-clause-others : goal.instances_residual-returns-in-Err-clause-others
 instances_residual-returns-in-Err-clause-others t c =
     let step = stepped-then (trees c.args.nodes.now) (trees c.tuples.nodes) c.tuples.invariant.kept c.args.quantifier c.requires.at (situation_of (plain_problem c.args.here.now.task.now.problem) c.args.here.now.world.now) c.tuples.tuples c.put_next.new.tuples c.tuples.env c.put_next.new.env c.put_next.result (c.put_next.ensures _ _) in
-    still-others (plain_problem c.args.here.now.task.now.problem) c.args.here.now.world.now (assignment_in c.args.env.now) (node_vars (trees c.args.nodes.now) c.args.quantifier) (node_bound (trees c.args.nodes.now) c.args.quantifier) (tree_at (trees c.args.nodes.now) c.args.quantifier.part) c.tuples.tuples c.put_next.new.tuples c.tuples.env c.put_next.new.env c.put_next.result step c.tuples.invariant.reads c.tuples.invariant.others c.residual_of.new.env c.residual_of.ensures.frame
+    still-others (plain_problem c.args.here.now.task.now.problem) c.args.here.now.world.now (assignment_in c.args.env.now) (node_vars (trees c.args.nodes.now) c.args.quantifier) (node_bound (trees c.args.nodes.now) c.args.quantifier) (tree_at (trees c.args.nodes.now) c.args.quantifier.part) c.tuples.tuples c.put_next.new.tuples c.tuples.env c.put_next.new.env c.put_next.result step c.tuples.invariant.reads c.tuples.invariant.others c.residual_of.new.env c.residual_of.ensures.stays.frame
 
 pub instances_residual-decides-requires : goal.instances_residual-decides-requires
 instances_residual-decides-requires t c =
@@ -428,7 +428,7 @@ instances_residual-returns-then-decides-clause-number t c =
 pub instances_residual-returns-then-decides-clause-others : goal.instances_residual-returns-then-decides-clause-others
 instances_residual-returns-then-decides-clause-others t c =
     let step = stepped-then (trees c.args.nodes.now) (trees c.tuples.nodes) c.tuples.invariant.kept c.args.quantifier c.requires.at (situation_of (plain_problem c.args.here.now.task.now.problem) c.args.here.now.world.now) c.tuples.tuples c.put_next.new.tuples c.tuples.env c.put_next.new.env c.put_next.result (c.put_next.ensures _ _) in
-    still-others (plain_problem c.args.here.now.task.now.problem) c.args.here.now.world.now (assignment_in c.args.env.now) (node_vars (trees c.args.nodes.now) c.args.quantifier) (node_bound (trees c.args.nodes.now) c.args.quantifier) (tree_at (trees c.args.nodes.now) c.args.quantifier.part) c.tuples.tuples c.put_next.new.tuples c.tuples.env c.put_next.new.env c.put_next.result step c.tuples.invariant.reads c.tuples.invariant.others c.residual_of.new.env c.residual_of.ensures.frame
+    still-others (plain_problem c.args.here.now.task.now.problem) c.args.here.now.world.now (assignment_in c.args.env.now) (node_vars (trees c.args.nodes.now) c.args.quantifier) (node_bound (trees c.args.nodes.now) c.args.quantifier) (tree_at (trees c.args.nodes.now) c.args.quantifier.part) c.tuples.tuples c.put_next.new.tuples c.tuples.env c.put_next.new.env c.put_next.result step c.tuples.invariant.reads c.tuples.invariant.others c.residual_of.new.env c.residual_of.ensures.stays.frame
 
 pub instances_residual-gather-requires : goal.instances_residual-gather-requires
 instances_residual-gather-requires t c =
@@ -444,7 +444,7 @@ instances_residual-returns-in_err-gather-in-Ok-clause-kept t c =
 pub instances_residual-returns-in_err-gather-in-Ok-clause-others : goal.instances_residual-returns-in_err-gather-in-Ok-clause-others
 instances_residual-returns-in_err-gather-in-Ok-clause-others t c =
     let step = stepped-then (trees c.args.nodes.now) (trees c.tuples.nodes) c.tuples.invariant.kept c.args.quantifier c.requires.at (situation_of (plain_problem c.args.here.now.task.now.problem) c.args.here.now.world.now) c.tuples.tuples c.put_next.new.tuples c.tuples.env c.put_next.new.env c.put_next.result (c.put_next.ensures _ _) in
-    still-others (plain_problem c.args.here.now.task.now.problem) c.args.here.now.world.now (assignment_in c.args.env.now) (node_vars (trees c.args.nodes.now) c.args.quantifier) (node_bound (trees c.args.nodes.now) c.args.quantifier) (tree_at (trees c.args.nodes.now) c.args.quantifier.part) c.tuples.tuples c.put_next.new.tuples c.tuples.env c.put_next.new.env c.put_next.result step c.tuples.invariant.reads c.tuples.invariant.others c.residual_of.new.env c.residual_of.ensures.frame
+    still-others (plain_problem c.args.here.now.task.now.problem) c.args.here.now.world.now (assignment_in c.args.env.now) (node_vars (trees c.args.nodes.now) c.args.quantifier) (node_bound (trees c.args.nodes.now) c.args.quantifier) (tree_at (trees c.args.nodes.now) c.args.quantifier.part) c.tuples.tuples c.put_next.new.tuples c.tuples.env c.put_next.new.env c.put_next.result step c.tuples.invariant.reads c.tuples.invariant.others c.residual_of.new.env c.residual_of.ensures.stays.frame
 
 pub instances_residual-tuples-smaller : goal.instances_residual-tuples-smaller
 instances_residual-tuples-smaller t c =
@@ -459,10 +459,10 @@ instances_residual-tuples-preserved t c =
     let step = stepped-then (trees c.args.nodes.now) (trees c.tuples.nodes) c.tuples.invariant.kept c.args.quantifier c.requires.at (situation_of (plain_problem c.args.here.now.task.now.problem) c.args.here.now.world.now) c.tuples.tuples c.put_next.new.tuples c.tuples.env c.put_next.new.env c.put_next.result (c.put_next.ensures _ _) in
     let come = has-come (plain_problem c.args.here.now.task.now.problem) c.args.here.now.world.now (assignment_in c.args.env.now) (node_vars (trees c.args.nodes.now) c.args.quantifier) (node_bound (trees c.args.nodes.now) c.args.quantifier) (tree_at (trees c.args.nodes.now) c.args.quantifier.part) c.tuples.tuples c.put_next.new.tuples c.tuples.env c.put_next.new.env c.put_next.result step c.tuples.invariant.reads fit.differ fit.occur c.tuples.invariant.others c.tuples-test.true in
     record {
-      remembers = c.residual_of.ensures.remembers;
+      remembers = c.residual_of.ensures.stays.remembers;
       kept = λ i f h. c.in-Ok.ensures.kept i f (c.tuples.invariant.kept i f h);
       reads = step.reads (assignment_in c.args.env.now) c.tuples.invariant.reads;
-      others = still-others (plain_problem c.args.here.now.task.now.problem) c.args.here.now.world.now (assignment_in c.args.env.now) (node_vars (trees c.args.nodes.now) c.args.quantifier) (node_bound (trees c.args.nodes.now) c.args.quantifier) (tree_at (trees c.args.nodes.now) c.args.quantifier.part) c.tuples.tuples c.put_next.new.tuples c.tuples.env c.put_next.new.env c.put_next.result step c.tuples.invariant.reads c.tuples.invariant.others c.residual_of.new.env c.residual_of.ensures.frame;
+      others = still-others (plain_problem c.args.here.now.task.now.problem) c.args.here.now.world.now (assignment_in c.args.env.now) (node_vars (trees c.args.nodes.now) c.args.quantifier) (node_bound (trees c.args.nodes.now) c.args.quantifier) (tree_at (trees c.args.nodes.now) c.args.quantifier.part) c.tuples.tuples c.put_next.new.tuples c.tuples.env c.put_next.new.env c.put_next.result step c.tuples.invariant.reads c.tuples.invariant.others c.residual_of.new.env c.residual_of.ensures.stays.frame;
       passed = instance-gathered (plain_problem c.args.here.now.task.now.problem) c.args.here.now.world.now (assignment_in c.args.env.now) (node_vars (trees c.args.nodes.now) c.args.quantifier) (node_bound (trees c.args.nodes.now) c.args.quantifier) (tree_at (trees c.args.nodes.now) c.args.quantifier.part) c.args.quantifier.junction c.tuples.tuples.tuple c.put_next.new.tuples.tuple c.put_next.new.env come (tree_at (trees c.tuples.nodes) c.args.quantifier.part) (stays (trees c.args.nodes.now) (trees c.tuples.nodes) c.tuples.invariant.kept c.args.quantifier.part c.requires.part) (trees c.tuples.nodes) (trees c.residual_of.new.nodes) c.in-Ok.ensures.kept c.tuples.answers c.tuples.invariant.passed c.in-Ok.number c.in-Ok.ensures.number c.gather.new.parts c.in_ok-gather-in-Ok.ensures.below c.in_ok-gather-in-Ok.ensures.same;
     }
 
@@ -517,10 +517,13 @@ quantifier_residual-give_back-requires-clause-few t c =
     let few : length (node_vars (trees c.args.nodes.now) c.args.quantifier) ≤ 9 = omega (arith, fit.few) in
     subst (λ (f : FormulaTree). length (vars_in f) ≤ 9) (sym (same-node (trees c.args.nodes.now) (trees c.instances_residual-answer.new.nodes) c.instances_residual-answer.ensures.kept c.args.quantifier c.requires.at)) few
 
-pub quantifier_residual-returns-clause-frame : goal.quantifier_residual-returns-clause-frame
-quantifier_residual-returns-clause-frame t c =
-    c.give_back.ensures c.args.env.now (subst (λ (f : FormulaTree). AreKept (vars_in f) c.args.env.now c.keep.new.outer) (sym (same-node (trees c.args.nodes.now) (trees c.instances_residual-answer.new.nodes) c.instances_residual-answer.ensures.kept c.args.quantifier c.requires.at)) c.keep.ensures)
-    (subst (λ (f : FormulaTree). AgreeElsewhere (vars_in f) (assignment_in c.instances_residual-answer.new.env) (assignment_in c.args.env.now)) (sym (same-node (trees c.args.nodes.now) (trees c.instances_residual-answer.new.nodes) c.instances_residual-answer.ensures.kept c.args.quantifier c.requires.at)) c.instances_residual-answer.ensures.others)
+pub quantifier_residual-returns-clause-stays : goal.quantifier_residual-returns-clause-stays
+quantifier_residual-returns-clause-stays t c =
+    record {
+      frame = c.give_back.ensures c.args.env.now (subst (λ (f : FormulaTree). AreKept (vars_in f) c.args.env.now c.keep.new.outer) (sym (same-node (trees c.args.nodes.now) (trees c.instances_residual-answer.new.nodes) c.instances_residual-answer.ensures.kept c.args.quantifier c.requires.at)) c.keep.ensures)
+          (subst (λ (f : FormulaTree). AgreeElsewhere (vars_in f) (assignment_in c.instances_residual-answer.new.env) (assignment_in c.args.env.now)) (sym (same-node (trees c.args.nodes.now) (trees c.instances_residual-answer.new.nodes) c.instances_residual-answer.ensures.kept c.args.quantifier c.requires.at)) c.instances_residual-answer.ensures.others);
+      remembers = c.instances_residual-answer.ensures.remembers;
+    }
 
 pub quantifier_residual-instances_residual-answer-requires : goal.quantifier_residual-instances_residual-answer-requires
 quantifier_residual-instances_residual-answer-requires t c =

@@ -16,3 +16,6 @@ returns-in-Ok-clause-number c =
 pub returns-in-Err-clause-cause : goal.returns-in-Err-clause-cause
 returns-in-Err-clause-cause c =
     subst (λ (x : List Operation). IsCausedBy x c.in-Err.fault) (looked-same (plain_problem c.args.here.now.task.now.problem) c.args.here.now.world.now (assignment_in c.args.env.now) (tree_at (trees c.args.nodes.now) c.args.at) c.requires.state) c.in-Err.ensures.cause
+
+pub part_truth-requires-clause-readable : goal.part_truth-requires-clause-readable
+part_truth-requires-clause-readable c = record { at = c.requires.at; fits = c.requires.fits; known = c.requires.known }
