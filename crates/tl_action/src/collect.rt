@@ -7,7 +7,7 @@ ghost use Rattle.tl_syntax.specs.Fits.{BoundFits};
 use crate::changes::Changes;
 use crate::here::Here;
 use crate::values::values_of;
-use tl_eval::{Env, EvalFault, TupleReader, state, term};
+use tl_eval::{BoundPattern, Env, EvalFault, state, term};
 use tl_syntax::{Bound, Effect, Effects, Fact, Facts, PlaceValue, PlaceValues, Term, Terms, Vars};
 
 /// Collects a fact whose arguments are the values of terms: false where one of them is undefined.
@@ -168,9 +168,10 @@ fn collect_each(
 {
     let vars = each.vars;
     let bound = each.bound;
-    let mut tuples = TupleReader::unopened();
-    tuples.open_in_place(here.task, env, vars, bound);
-    while tuples.next(here.task, here.world, bound) {
+    let mut pattern = BoundPattern::unopened(true);
+    pattern.open_in_place(here.task, env, vars, bound);
+    let mut tuples = pattern.tuples(here.task, here.world, bound);
+    while tuples.next() {
         env.put_values(vars.as_slice(), tuples.values());
         match collect_all(here, env, each.effects, changes) {
             Ok(true) => {}

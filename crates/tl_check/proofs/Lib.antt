@@ -36,6 +36,4 @@ pub mod InstanceLaws
 pub mod TupleLaws
 pub mod SteadyLaws
 pub mod GatheredLaws
-pub mod OrderedLaws
-pub mod OrderLaws
 pub mod SamePlaces

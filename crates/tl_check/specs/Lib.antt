@@ -20,7 +20,6 @@ pub mod Later
 pub mod Labelled
 pub mod Quantifiers
 pub mod PartTrees
-pub mod TableOrder
 pub mod Instances
 pub mod FixedTerms
 pub mod Steady

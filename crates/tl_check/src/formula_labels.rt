@@ -25,7 +25,6 @@ use crate::part::Part;
 use crate::plain::{Compared, has_parts, is_plain};
 use crate::span::Span;
 use crate::state_labels::state_labels;
-use crate::table_order::table_order;
 use crate::temporal::is_state;
 use crate::tuples::tuples_of;
 use crate::unlabelled::Unlabelled;
@@ -264,44 +263,10 @@ fn join_part(
     }
 }
 
-/// The labels of a universal or an existential formula. Where the formula below it speaks of facts
-/// alone, so that no operation is past range, the tuples are read in the order in which the
-/// variables stand in the bound: the order of instances bears on nothing.
+/// The labels of a universal or an existential formula: each instance is labelled once, where its
+/// tuple makes the bound true.
 #[cycle(labels_of)]
-fn quantified_labels<'a>(
-    binder: &Binder<'a>,
-    along: &Along,
-    span: Span,
-    env: &mut Env,
-) -> Result<Labels, Unlabelled>
-    requires along { IsAlong along.now }
-    requires span { IsWithin span (length (states_along along.now)) }
-    requires frame { length env.old ≡ 32 }
-    requires fits { FitsAlong along.now (quantified_tree binder.now) }
-    ensures labels { AreQuantifiedLabels along.now span env.old binder.now result }
-    ensures frame { OnOk result (env.new ≡ env.old) }
-{
-    if !is_plain(binder.part, Compared::Plain) {
-        return instances_labels(binder, along, span, env);
-    }
-    match table_order(along.alloc, binder.vars, binder.bound)? {
-        Some(vars) => {
-            let ordered = Binder {
-                junction: binder.junction,
-                vars: &vars,
-                bound: binder.bound,
-                part: binder.part,
-            };
-            instances_labels(&ordered, along, span, env)
-        }
-        None => instances_labels(binder, along, span, env),
-    }
-}
-
-/// The labels of a quantified formula whose tuples are read in the order of its variables: each
-/// instance is labelled once, where its tuple makes the bound true.
-#[cycle(labels_of)]
-fn instances_labels(
+fn quantified_labels(
     binder: &Binder,
     along: &Along,
     span: Span,

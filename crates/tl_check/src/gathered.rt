@@ -13,7 +13,7 @@ use crate::binder::Binder;
 use crate::same_places::same_up_to;
 use crate::span::Span;
 use crate::tracks::{Tracks, fact_of};
-use tl_eval::{Env, TupleReader};
+use tl_eval::{BoundPattern, Env};
 use tl_syntax::NoMemory;
 use tl_world::World;
 
@@ -44,9 +44,10 @@ impl Tracks {
         ensures counts { OnOk result (KeepCounts alike.now.binder self.old self.new) }
     {
         let binder = alike.binder;
-        let mut tuples = TupleReader::unopened();
-        tuples.open_in_place(along.task, env, binder.vars, binder.bound);
-        'reading: while tuples.next(along.task, alike.first, binder.bound) {
+        let mut pattern = BoundPattern::unopened(true);
+        pattern.open_in_place(along.task, env, binder.vars, binder.bound);
+        let mut tuples = pattern.tuples(along.task, alike.first, binder.bound);
+        'reading: while tuples.next() {
             let fact = fact_of(along.alloc, 0, tuples.values())?;
             self.note_span(along.alloc, fact, alike.span)?;
         }

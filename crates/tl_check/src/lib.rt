@@ -31,7 +31,6 @@ mod same_places;
 mod span;
 mod state_labels;
 mod steady;
-mod table_order;
 mod temporal;
 mod tracks;
 mod trail;

@@ -16,7 +16,7 @@ use crate::line::{Change, line_labels};
 use crate::span::Span;
 use crate::tracks::{Tracks, fact_of, line_of};
 use std::collections::HashMap;
-use tl_eval::{Env, TupleReader};
+use tl_eval::{BoundPattern, Env};
 use tl_syntax::{Bound, Fact, NoMemory};
 use tl_world::World;
 
@@ -40,9 +40,10 @@ fn tuples_in(binder: &Binder, w: &World, along: &Along, env: &Env) -> Result<Vec
     ensures { IfOk result (λ facts. AreTuplesIn along.now env.now binder.now w.now facts.items) }
 {
     let mut facts = Vec::new(along.alloc);
-    let mut tuples = TupleReader::unopened();
-    tuples.open_in_place(along.task, env, binder.vars, binder.bound);
-    'reading: while tuples.next(along.task, w, binder.bound) {
+    let mut pattern = BoundPattern::unopened(true);
+    pattern.open_in_place(along.task, env, binder.vars, binder.bound);
+    let mut tuples = pattern.tuples(along.task, w, binder.bound);
+    'reading: while tuples.next() {
         let fact = fact_of(along.alloc, 0, tuples.values())?;
         facts.push(fact)?;
     }

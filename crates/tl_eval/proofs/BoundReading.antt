@@ -1,10 +1,10 @@
 -- The tuples of a bound are the matches of its pattern.
 use Rattle.std.proofs.Common.{◌≡◌, ℕ, List, length, Bool, true, false, Option, Some, None, refl, sym, ◌∙◌, subst}
 use Rattle.std.specs.Prelude.{IfSome}
+use Rattle.tl_eval.specs.Binders.{IsNextTuple}
 use Rattle.tl_eval.specs.BoundTuples.{ReadsWhatStands, ComesToNext, ReadsSameBound, HasOneForEach}
 use Rattle.tl_eval.specs.InPlace.{in_place}
 use Rattle.tl_eval.specs.PatternOf.{world_read, IsPatternOf}
-use Rattle.tl_eval.specs.Reader.{IsNextTuple}
 use Rattle.tl_eval.proofs.TupleSearch.{found-next, never-next}
 use Rattle.tl_syntax.specs.declared.bound.Bound.{Bound}
 use Rattle.tl_syntax.specs.declared.value.Value.{Value}

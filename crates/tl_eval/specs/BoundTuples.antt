@@ -4,8 +4,8 @@ use Rattle.tl_syntax.specs.declared.bound.Bound.{Bound}
 use Rattle.tl_syntax.specs.declared.value.Value.{Value}
 use Rattle.tl_syntax.specs.declared.variable.Var.{Var}
 use Rattle.tl_syntax.specs.Assignment.{Assignment}
+use Rattle.tl_eval.specs.Binders.{IsNextTuple}
 use Rattle.tl_eval.specs.PatternOf.{IsPatternOf, world_read}
-use Rattle.tl_eval.specs.Reader.{IsNextTuple}
 use Rattle.tl_terms.specs.Situation.{Situation}
 use Rattle.tl_match.specs.declared.pattern.Pattern.{Pattern}
 use Rattle.tl_world.specs.MatchReading.{Reading}

@@ -7,9 +7,8 @@ pub mod TermValues
 pub mod Operates
 pub mod Reading
 pub mod PatternOf
-pub mod Reader
-pub mod BoundTuples
 pub mod Binders
+pub mod BoundTuples
 pub mod LawsTuples
 pub mod Remembered
 pub mod Memory

@@ -150,14 +150,14 @@ collect_all-returns-clause-changes t c =
 pub collect_each-loop-vars-init : goal.collect_each-loop-vars-init
 collect_each-loop-vars-init t c =
     record {
-      reads = c.open_in_place.ensures.reads;
+      reads = c.tuples-tuples.ensures.reads c.args.each.now.vars.now (assignment_in c.args.env.now) c.open_in_place.ensures.stands;
       frame = λ around fresh fits. agree-self around (assignment_in c.args.env.now);
-      passed = tuples-begun (plain_problem c.args.here.now.task.now.problem) c.args.here.now.world.now (assignment_in c.args.env.now) c.args.each.now.vars.now (tree_of_effects c.args.each.now.effects.now) (all (situation_of (plain_problem c.args.here.now.task.now.problem) c.args.here.now.world.now) (assignment_in c.args.env.now) c.args.each.now.vars.now c.args.each.now.bound.now) (left (situation_of (plain_problem c.args.here.now.task.now.problem) c.args.here.now.world.now) (assignment_in c.args.env.now) c.args.each.now.vars.now c.args.each.now.bound.now c.open_in_place.new.self.tuple) c.args.changes.now (ap (left (situation_of (plain_problem c.args.here.now.task.now.problem) c.args.here.now.world.now) (assignment_in c.args.env.now) c.args.each.now.vars.now c.args.each.now.bound.now) c.open_in_place.ensures.before ∙ none-done (situation_of (plain_problem c.args.here.now.task.now.problem) c.args.here.now.world.now) (assignment_in c.args.env.now) c.args.each.now.vars.now c.args.each.now.bound.now);
+      passed = tuples-begun (plain_problem c.args.here.now.task.now.problem) c.args.here.now.world.now (assignment_in c.args.env.now) c.args.each.now.vars.now (tree_of_effects c.args.each.now.effects.now) (all (situation_of (plain_problem c.args.here.now.task.now.problem) c.args.here.now.world.now) (assignment_in c.args.env.now) c.args.each.now.vars.now c.args.each.now.bound.now) (left (situation_of (plain_problem c.args.here.now.task.now.problem) c.args.here.now.world.now) (assignment_in c.args.env.now) c.args.each.now.vars.now c.args.each.now.bound.now c.tuples-tuples.result.tuple) c.args.changes.now (ap (left (situation_of (plain_problem c.args.here.now.task.now.problem) c.args.here.now.world.now) (assignment_in c.args.env.now) c.args.each.now.vars.now c.args.each.now.bound.now) c.tuples-tuples.ensures.before ∙ none-done (situation_of (plain_problem c.args.here.now.task.now.problem) c.args.here.now.world.now) (assignment_in c.args.env.now) c.args.each.now.vars.now c.args.each.now.bound.now);
     }
 
 pub collect_each-put_values-requires-clause-same : goal.collect_each-put_values-requires-clause-same
 collect_each-put_values-requires-clause-same t c =
-    ap (λ (ss : List Var). length ss) c.as_slice.ensures ∙ sym (c.values.ensures.count c.args.each.now.vars.now (assignment_in c.args.env.now) c.args.each.now.bound.now (c.next.ensures.reads c.args.each.now.vars.now (assignment_in c.args.env.now) c.loop-vars.invariant.reads))
+    ap (λ (ss : List Var). length ss) c.as_slice.ensures ∙ sym (c.values.ensures.count _ c.args.each.now.vars.now (assignment_in c.args.env.now) c.args.each.now.bound.now (c.next.ensures.reads _ _ c.args.each.now.vars.now (assignment_in c.args.env.now) c.loop-vars.invariant.reads))
 
 pub collect_each-put_values-requires-clause-slots : goal.collect_each-put_values-requires-clause-slots
 collect_each-put_values-requires-clause-slots t c = subst (Each (λ (s : Var). s.slot < 32)) (sym c.as_slice.ensures) c.requires.reads.frame
@@ -168,7 +168,7 @@ collect_each-collect_all-requires t c = (omega (arith, c.decreases), inner-reads
 pub collect_each-returns-in-Ok-false-clause-changes : goal.collect_each-returns-in-Ok-false-clause-changes
 collect_each-returns-in-Ok-false-clause-changes t c =
     let e = assignment_in c.args.env.now in
-    let next = c.next.ensures.next c.args.each.now.vars.now e c.loop-vars.invariant.reads in
+    let next = c.next.ensures.next _ _ c.args.each.now.vars.now e c.loop-vars.invariant.reads in
     let first = first-left (situation_of (plain_problem c.args.here.now.task.now.problem) c.args.here.now.world.now) (assignment_in c.args.env.now) c.args.each.now.vars.now c.args.each.now.bound.now c.requires.differ c.requires.occur c.loop-vars.tuples.tuple c.next.new.self.tuple next c.values.result.now c.values.ensures.values in
     let bound = c.put_values.ensures.values ∙ ap (λ (ss : List Var). bind ss c.values.result.now (assignment_in c.loop-vars.env)) c.as_slice.ensures in
     tuple-undefined (signature_of c.args.here.now.task.now.problem.domain) (plain_problem c.args.here.now.task.now.problem) c.args.here.now.world.now (assignment_in c.args.env.now) c.args.each.now.vars.now (tree_of_effects c.args.each.now.effects.now) (all (situation_of (plain_problem c.args.here.now.task.now.problem) c.args.here.now.world.now) (assignment_in c.args.env.now) c.args.each.now.vars.now c.args.each.now.bound.now) (left (situation_of (plain_problem c.args.here.now.task.now.problem) c.args.here.now.world.now) (assignment_in c.args.env.now) c.args.each.now.vars.now c.args.each.now.bound.now c.loop-vars.tuples.tuple) (left (situation_of (plain_problem c.args.here.now.task.now.problem) c.args.here.now.world.now) (assignment_in c.args.env.now) c.args.each.now.vars.now c.args.each.now.bound.now (Some c.values.result.now)) c.values.result.now first c.args.changes.now c.loop-vars.changes c.loop-vars.invariant.passed c.requires.reads (assignment_in c.put_values.new.self) (assignment_in c.loop-vars.env) bound c.loop-vars.invariant.frame c.collect_all.new.changes c.in-Ok-false.field-0 c.in-Ok-false.field-0-test c.in-Ok-false.ensures.changes
@@ -181,11 +181,11 @@ collect_each-returns-in-Ok-false-clause-frame t c =
 pub collect_each-loop-vars-preserved : goal.collect_each-loop-vars-preserved
 collect_each-loop-vars-preserved t c =
     let e = assignment_in c.args.env.now in
-    let next = c.next.ensures.next c.args.each.now.vars.now e c.loop-vars.invariant.reads in
+    let next = c.next.ensures.next _ _ c.args.each.now.vars.now e c.loop-vars.invariant.reads in
     let first = first-left (situation_of (plain_problem c.args.here.now.task.now.problem) c.args.here.now.world.now) (assignment_in c.args.env.now) c.args.each.now.vars.now c.args.each.now.bound.now c.requires.differ c.requires.occur c.loop-vars.tuples.tuple c.next.new.self.tuple next c.values.result.now c.values.ensures.values in
     let bound = c.put_values.ensures.values ∙ ap (λ (ss : List Var). bind ss c.values.result.now (assignment_in c.loop-vars.env)) c.as_slice.ensures in
     record {
-      reads = c.next.ensures.reads c.args.each.now.vars.now e c.loop-vars.invariant.reads;
+      reads = c.next.ensures.reads _ _ c.args.each.now.vars.now e c.loop-vars.invariant.reads;
       frame = frame-after (signature_of c.args.here.now.task.now.problem.domain) c.args.each.now.vars.now (tree_of_effects c.args.each.now.effects.now) c.values.result.now (assignment_in c.collect_all.new.env) (assignment_in c.put_values.new.self) (assignment_in c.loop-vars.env) (assignment_in c.args.env.now) bound c.loop-vars.invariant.frame c.collect_all.ensures.frame;
       passed = subst (λ (o : Option (List Value)). TuplesPassed (plain_problem c.args.here.now.task.now.problem) c.args.here.now.world.now (assignment_in c.args.env.now) c.args.each.now.vars.now (tree_of_effects c.args.each.now.effects.now) (all (situation_of (plain_problem c.args.here.now.task.now.problem) c.args.here.now.world.now) (assignment_in c.args.env.now) c.args.each.now.vars.now c.args.each.now.bound.now) (left (situation_of (plain_problem c.args.here.now.task.now.problem) c.args.here.now.world.now) (assignment_in c.args.env.now) c.args.each.now.vars.now c.args.each.now.bound.now o) c.args.changes.now c.collect_all.new.changes) (sym c.values.ensures.values)
           (tuple-on (signature_of c.args.here.now.task.now.problem.domain) (plain_problem c.args.here.now.task.now.problem) c.args.here.now.world.now (assignment_in c.args.env.now) c.args.each.now.vars.now (tree_of_effects c.args.each.now.effects.now) (all (situation_of (plain_problem c.args.here.now.task.now.problem) c.args.here.now.world.now) (assignment_in c.args.env.now) c.args.each.now.vars.now c.args.each.now.bound.now) (left (situation_of (plain_problem c.args.here.now.task.now.problem) c.args.here.now.world.now) (assignment_in c.args.env.now) c.args.each.now.vars.now c.args.each.now.bound.now c.loop-vars.tuples.tuple) (left (situation_of (plain_problem c.args.here.now.task.now.problem) c.args.here.now.world.now) (assignment_in c.args.env.now) c.args.each.now.vars.now c.args.each.now.bound.now (Some c.values.result.now)) c.values.result.now first c.args.changes.now c.loop-vars.changes c.loop-vars.invariant.passed c.requires.reads (assignment_in c.put_values.new.self) (assignment_in c.loop-vars.env) bound c.loop-vars.invariant.frame c.collect_all.new.changes c.in-Ok-true.field-0 c.in-Ok-true.field-0-test c.in-Ok-true.ensures.changes);
@@ -194,13 +194,13 @@ collect_each-loop-vars-preserved t c =
 pub collect_each-loop-vars-smaller : goal.collect_each-loop-vars-smaller
 collect_each-loop-vars-smaller t c =
     let e = assignment_in c.args.env.now in
-    let next = c.next.ensures.next c.args.each.now.vars.now e c.loop-vars.invariant.reads in
+    let next = c.next.ensures.next _ _ c.args.each.now.vars.now e c.loop-vars.invariant.reads in
     subst (λ (o : Option (List Value)). length (left (situation_of (plain_problem c.args.here.now.task.now.problem) c.args.here.now.world.now) (assignment_in c.args.env.now) c.args.each.now.vars.now c.args.each.now.bound.now o) < length (left (situation_of (plain_problem c.args.here.now.task.now.problem) c.args.here.now.world.now) (assignment_in c.args.env.now) c.args.each.now.vars.now c.args.each.now.bound.now c.loop-vars.tuples.tuple)) (sym c.values.ensures.values) (fewer-left (situation_of (plain_problem c.args.here.now.task.now.problem) c.args.here.now.world.now) (assignment_in c.args.env.now) c.args.each.now.vars.now c.args.each.now.bound.now c.requires.differ c.requires.occur c.loop-vars.tuples.tuple c.next.new.self.tuple next c.values.result.now c.values.ensures.values)
 
 pub collect_each-returns-in-Err-clause-changes : goal.collect_each-returns-in-Err-clause-changes
 collect_each-returns-in-Err-clause-changes t c =
     let e = assignment_in c.args.env.now in
-    let next = c.next.ensures.next c.args.each.now.vars.now e c.loop-vars.invariant.reads in
+    let next = c.next.ensures.next _ _ c.args.each.now.vars.now e c.loop-vars.invariant.reads in
     let first = first-left (situation_of (plain_problem c.args.here.now.task.now.problem) c.args.here.now.world.now) (assignment_in c.args.env.now) c.args.each.now.vars.now c.args.each.now.bound.now c.requires.differ c.requires.occur c.loop-vars.tuples.tuple c.next.new.self.tuple next c.values.result.now c.values.ensures.values in
     let bound = c.put_values.ensures.values ∙ ap (λ (ss : List Var). bind ss c.values.result.now (assignment_in c.loop-vars.env)) c.as_slice.ensures in
     tuple-fault (signature_of c.args.here.now.task.now.problem.domain) (plain_problem c.args.here.now.task.now.problem) c.args.here.now.world.now (assignment_in c.args.env.now) c.args.each.now.vars.now (tree_of_effects c.args.each.now.effects.now) (all (situation_of (plain_problem c.args.here.now.task.now.problem) c.args.here.now.world.now) (assignment_in c.args.env.now) c.args.each.now.vars.now c.args.each.now.bound.now) (left (situation_of (plain_problem c.args.here.now.task.now.problem) c.args.here.now.world.now) (assignment_in c.args.env.now) c.args.each.now.vars.now c.args.each.now.bound.now c.loop-vars.tuples.tuple) (left (situation_of (plain_problem c.args.here.now.task.now.problem) c.args.here.now.world.now) (assignment_in c.args.env.now) c.args.each.now.vars.now c.args.each.now.bound.now (Some c.values.result.now)) c.values.result.now first c.args.changes.now c.loop-vars.changes c.loop-vars.invariant.passed c.requires.reads (assignment_in c.put_values.new.self) (assignment_in c.loop-vars.env) bound c.loop-vars.invariant.frame c.in-Err.fault c.in-Err.ensures.changes
@@ -213,7 +213,7 @@ collect_each-returns-in-Err-clause-frame t c =
 pub collect_each-returns-clause-changes : goal.collect_each-returns-clause-changes
 collect_each-returns-clause-changes t c =
     let e = assignment_in c.args.env.now in
-    let next = c.next.ensures.next c.args.each.now.vars.now e c.loop-vars.invariant.reads in
+    let next = c.next.ensures.next _ _ c.args.each.now.vars.now e c.loop-vars.invariant.reads in
     tuples-all (plain_problem c.args.here.now.task.now.problem) c.args.here.now.world.now (assignment_in c.args.env.now) c.args.each.now.vars.now (tree_of_effects c.args.each.now.effects.now) (all (situation_of (plain_problem c.args.here.now.task.now.problem) c.args.here.now.world.now) (assignment_in c.args.env.now) c.args.each.now.vars.now c.args.each.now.bound.now) (left (situation_of (plain_problem c.args.here.now.task.now.problem) c.args.here.now.world.now) (assignment_in c.args.env.now) c.args.each.now.vars.now c.args.each.now.bound.now c.loop-vars.tuples.tuple) c.args.changes.now c.loop-vars.changes (none-left (situation_of (plain_problem c.args.here.now.task.now.problem) c.args.here.now.world.now) (assignment_in c.args.env.now) c.args.each.now.vars.now c.args.each.now.bound.now c.requires.differ c.requires.occur c.loop-vars.tuples.tuple c.next.new.self.tuple next (c.next.ensures.end c.loop-vars-test.false)) c.loop-vars.invariant.passed
 
 pub collect_each-returns-clause-frame : goal.collect_each-returns-clause-frame

@@ -4,8 +4,8 @@ use Rattle.tl_action.proofs.BoundTuples.{all, left}
 use Rattle.tl_action.proofs.EffectSizes.{effect_nodes, effects_nodes}
 use Rattle.tl_action.proofs.EffectLists.{EffectsPassed}
 use Rattle.tl_action.proofs.EffectTuples.{TuplesPassed}
+use Rattle.tl_eval.specs.BoundTuples.{ReadsBound}
 use Rattle.tl_eval.specs.Frames.{assignment_in}
-use Rattle.tl_eval.specs.Reader.{ReadsTuples}
 use Rattle.tl_syntax.specs.Signature.{signature_of}
 use Rattle.tl_syntax.specs.TreeOfEffect.{tree_of_effect, tree_of_effects, effects_of_list}
 use Rattle.tl_terms.specs.Definitions.{situation_of}
@@ -28,7 +28,7 @@ invariant-collect_all-loop-effect l = record {
 }
 
 abbrev pub decreases-collect_each-loop-vars : goal.decreases-collect_each-loop-vars
-decreases-collect_each-loop-vars l = length (left (situation_of (plain_problem l.here.task.now.problem) l.here.world.now) (assignment_in l.fn.env) l.vars l.bound l.tuples.tuple)
+decreases-collect_each-loop-vars l = length (left (situation_of (plain_problem l.here.task.now.problem) l.here.world.now) (assignment_in l.fn.env) l.vars l.each.bound.now l.tuples.tuple)
 
 abbrev pub invariant-collect_each-loop-vars : goal.invariant-collect_each-loop-vars
 invariant-collect_each-loop-vars l =
@@ -36,7 +36,7 @@ invariant-collect_each-loop-vars l =
     let s = situation_of p l.here.world.now in
     let e = assignment_in l.fn.env in
     record {
-      reads : ReadsTuples l.vars e l.bound l.tuples;
+      reads : ReadsBound s l.vars e l.each.bound.now l.tuples;
       frame : EachLeaves (signature_of l.here.task.now.problem.domain) l.vars (tree_of_effects l.each.effects.now) e (assignment_in l.env);
-      passed : TuplesPassed p l.here.world.now e l.vars (tree_of_effects l.each.effects.now) (all s e l.vars l.bound) (left s e l.vars l.bound l.tuples.tuple) l.fn.changes l.changes;
+      passed : TuplesPassed p l.here.world.now e l.vars (tree_of_effects l.each.effects.now) (all s e l.vars l.each.bound.now) (left s e l.vars l.each.bound.now l.tuples.tuple) l.fn.changes l.changes;
     }

@@ -3,7 +3,6 @@ use Rattle.tl_check.proofs.FitLaws.{Parts, quantified-parts, item-fits}
 use Rattle.tl_check.proofs.FormulaLabels.{state-True, state-False, state-Atom, state-Defined, state-Compare, state-GoalFact, state-GoalPlace, state-GoalNot, one-Not, one-Next, one-Always, one-Eventually, one-Within, one-During, not-made, not-noted, shifted, shifted-within, next-handed, later-made, later-noted, until-parts, until-made, until-first-noted, until-second-noted, same-length, fits-not, fits-next, fits-word, two-Until, all-And, all-Or, item-noted, body-ForAll, body-Exists}
 use Rattle.tl_check.proofs.HistoryLaws.{each-among, among-item}
 use Rattle.tl_check.proofs.InstanceLaws.{joining-begun, joining-on, joining-noted, joining-end, hull-within, instance-nowhere, instance-joined, instance-noted}
-use Rattle.tl_check.proofs.OrderLaws.{fits-ordered, ordered-labels}
 use Rattle.tl_check.proofs.OpenLaws.{part-noted, inner-within, inner-room, open-joined, decided-part}
 use Rattle.tl_check.proofs.PartLabels.{parts-begun, parts-on, parts-end}
 use Rattle.tl_check.proofs.Sizes.{size-at}
@@ -21,7 +20,6 @@ use Rattle.tl_check.specs.Later.{later_tree}
 use Rattle.tl_check.specs.Passes.{joined_labels}
 use Rattle.tl_check.specs.Picked.{placed_labels}
 use Rattle.tl_check.specs.Spans.{IsWithin, marks_in}
-use Rattle.tl_check.specs.TableOrder.{AreOrdered}
 use Rattle.tl_check.specs.StatesAlong.{states_along, course_along, UnlessFew}
 use Rattle.tl_check.specs.declared.along.Along.{Along}
 use Rattle.tl_check.specs.declared.binder.Binder.{Binder}
@@ -62,9 +60,6 @@ tuples-known a e b span o t q h = subst (λ (x : Option Tuples). IfSome x (AreTu
 
 labels-known : (a : Along) (span : Span) (frame : List (Option Value)) (b : Binder) (o : Option (List Bool)) (bs : List Bool) → o ≡ Some bs → IfSome o (λ labels. labels ≡ bound_along a span frame b.bound.now) → bs ≡ bound_along a span frame b.bound.now
 labels-known a span frame b o bs q h = subst (λ (x : Option (List Bool)). IfSome x (λ labels. labels ≡ bound_along a span frame b.bound.now)) q h
-
-order-known : (ss : List Var) (o : Option (List Var)) (us : List Var) → o ≡ Some us → IfSome o (AreOrdered ss) → AreOrdered ss us
-order-known ss o us q h = subst (λ (x : Option (List Var)). IfSome x (AreOrdered ss)) q h
 
 -- what a quantified formula gives
 parts-of : (a : Along) (b : Binder) → FitsAlong a (quantified_tree b) → Parts (signature_of a.task.now.problem.domain) b.vars.now b.bound.now (tree_of_formula b.part.now)
@@ -420,53 +415,25 @@ join_part-returns-in-None-clause-joined t c =
     let test = true_ahead (course_along c.args.along.now) (assignment_in c.args.env.now) (tree_of_formula c.args.part.now.formula.now) in
     c.in-None.ensures.same ∙ decided-part c.args.part.now.junction c.args.all.now test (states_along c.args.along.now) c.args.span c.args.span c.requires.span c.requires.size c.in-None.ensures.none
 
-pub quantified_labels-instances_labels-requires : goal.quantified_labels-instances_labels-requires
-quantified_labels-instances_labels-requires t c =
-    (omega (arith, c.decreases), (c.requires.along, (c.requires.span, (c.requires.frame, c.requires.fits))))
-
-pub quantified_labels-instances_labels-requires-in-Some : goal.quantified_labels-instances_labels-requires-in-Some
-quantified_labels-instances_labels-requires-in-Some t c =
-    let a = c.args.along.now in
-    let b = c.args.binder.now in
-    let fits = fits-ordered (signature_of a.task.now.problem.domain) b.junction b.bound.now (tree_of_formula b.part.now) b.vars.now c.in-Some.vars (order-known b.vars.now c.in_ok-vars.field-0 c.in-Some.vars c.in-Some.is c.in_ok-vars.ensures) c.requires.fits in
-    (omega (arith, c.decreases), (c.requires.along, (c.requires.span, (c.requires.frame, fits))))
-
-pub quantified_labels-returns-in-Some-clause-labels : goal.quantified_labels-returns-in-Some-clause-labels
-quantified_labels-returns-in-Some-clause-labels t c =
-    let a = c.args.along.now in
-    let b = c.args.binder.now in
-    let p = course_along a in
-    let ws = states_along a in
-    let e = assignment_in c.args.env.now in
-    let f = tree_of_formula b.part.now in
-    let parts = parts-of a b c.requires.fits in
-    let is = order-known b.vars.now c.in_ok-vars.field-0 c.in-Some.vars c.in-Some.is c.in_ok-vars.ensures in
-    by-cases a (AreLabels p ws c.args.span e (quantified b.junction c.in-Some.vars b.bound.now f)) (AreLabels p ws c.args.span e (quantified b.junction b.vars.now b.bound.now f))
-    (λ r h. ordered-labels p e b.junction b.bound.now f b.vars.now c.in-Some.vars parts.differ parts.occur is ws c.args.span r h) c.instances_labels-in-Some.result c.instances_labels-in-Some.ensures.labels
-
-pub quantified_labels-instances_labels-requires-in-None : goal.quantified_labels-instances_labels-requires-in-None
-quantified_labels-instances_labels-requires-in-None t c =
-    (omega (arith, c.decreases), (c.requires.along, (c.requires.span, (c.requires.frame, c.requires.fits))))
-
-pub instances_labels-tuples_of-requires-clause-differ : goal.instances_labels-tuples_of-requires-clause-differ
-instances_labels-tuples_of-requires-clause-differ t c =
+pub quantified_labels-tuples_of-requires-clause-differ : goal.quantified_labels-tuples_of-requires-clause-differ
+quantified_labels-tuples_of-requires-clause-differ t c =
     (parts-of c.args.along.now c.args.binder.now c.requires.fits).differ
 
-pub instances_labels-tuples_of-requires-clause-occur : goal.instances_labels-tuples_of-requires-clause-occur
-instances_labels-tuples_of-requires-clause-occur t c =
+pub quantified_labels-tuples_of-requires-clause-occur : goal.quantified_labels-tuples_of-requires-clause-occur
+quantified_labels-tuples_of-requires-clause-occur t c =
     (parts-of c.args.along.now c.args.binder.now c.requires.fits).occur
 
-pub instances_labels-tuples_of-requires-clause-fits : goal.instances_labels-tuples_of-requires-clause-fits
-instances_labels-tuples_of-requires-clause-fits t c =
+pub quantified_labels-tuples_of-requires-clause-fits : goal.quantified_labels-tuples_of-requires-clause-fits
+quantified_labels-tuples_of-requires-clause-fits t c =
     (parts-of c.args.along.now c.args.binder.now c.requires.fits).bound
 
-pub instances_labels-kept-outer-requires : goal.instances_labels-kept-outer-requires
-instances_labels-kept-outer-requires t c =
+pub quantified_labels-kept-outer-requires : goal.quantified_labels-kept-outer-requires
+quantified_labels-kept-outer-requires t c =
     let parts = parts-of c.args.along.now c.args.binder.now c.requires.fits in
     record { few = omega (arith, ap length c.as_slice-vars.ensures, parts.few) }
 
-pub instances_labels-loop-tuple-init : goal.instances_labels-loop-tuple-init
-instances_labels-loop-tuple-init t c =
+pub quantified_labels-loop-tuple-init : goal.quantified_labels-loop-tuple-init
+quantified_labels-loop-tuple-init t c =
     let a = c.args.along.now in
     let b = c.args.binder.now in
     let e = assignment_in c.args.env.now in
@@ -480,23 +447,23 @@ instances_labels-loop-tuple-init t c =
           (c.in_ok-all.ensures.same ∙ ap (λ (x : Bool). replicate (c.args.span.to - c.args.span.from) (not x)) c.deciding_truth.ensures);
     }
 
-pub instances_labels-put_values-requires-clause-slots : goal.instances_labels-put_values-requires-clause-slots
-instances_labels-put_values-requires-clause-slots t c =
+pub quantified_labels-put_values-requires-clause-slots : goal.quantified_labels-put_values-requires-clause-slots
+quantified_labels-put_values-requires-clause-slots t c =
     let parts = parts-of c.args.along.now c.args.binder.now c.requires.fits in
     subst (Each (λ (s : Var). s.slot < 32)) (sym c.as_slice-vars.ensures) parts.in_frame
 
-pub instances_labels-put_values-requires-clause-same : goal.instances_labels-put_values-requires-clause-same
-instances_labels-put_values-requires-clause-same t c =
+pub quantified_labels-put_values-requires-clause-same : goal.quantified_labels-put_values-requires-clause-same
+quantified_labels-put_values-requires-clause-same t c =
     let known = tuple-at (length c.args.binder.now.vars.now) c.deref-tuple-items.result.now c.loop-tuple.invariant.counts c.loop-tuple.tuple-index c.tuple-item.result c.loop-tuple-test.true c.tuple-item.is in
     ap length c.as_slice-vars.ensures ∙ sym (ap length c.as_slice.ensures ∙ known.1)
 
-pub instances_labels-there-requires-clause-fits : goal.instances_labels-there-requires-clause-fits
-instances_labels-there-requires-clause-fits t c =
+pub quantified_labels-there-requires-clause-fits : goal.quantified_labels-there-requires-clause-fits
+quantified_labels-there-requires-clause-fits t c =
     let such = tuples-known c.args.along.now (assignment_in c.args.env.now) c.args.binder.now c.args.span c.in_ok-tuples.field-0 c.in-Some.tuples c.in-Some.is c.in_ok-tuples.ensures.tuples in
     subst (BoundFitsAlong c.args.along.now) (sym such.bound) (parts-of c.args.along.now c.args.binder.now c.requires.fits).bound
 
-pub instances_labels-join_instance-requires : goal.instances_labels-join_instance-requires
-instances_labels-join_instance-requires t c =
+pub quantified_labels-join_instance-requires : goal.quantified_labels-join_instance-requires
+quantified_labels-join_instance-requires t c =
     let a = c.args.along.now in
     let b = c.args.binder.now in
     let e = assignment_in c.args.env.now in
@@ -508,8 +475,8 @@ instances_labels-join_instance-requires t c =
     let there = labels-known a c.args.span c.put_values.new.self b c.in_ok-there.field-0 c.in-Some-2.there c.in-Some-2.is (c.in_ok-there.ensures.there e b such parts.differ parts.occur known here) in
     (omega (arith, c.decreases), (c.requires.along, (c.requires.span, (c.put_values.ensures.slots ∙ c.loop-tuple.invariant.slots, (c.requires.fits, (there, omega (arith, c.loop-tuple.invariant.so_far.size, c.requires.span.order)))))))
 
-pub instances_labels-loop-tuple-preserved : goal.instances_labels-loop-tuple-preserved
-instances_labels-loop-tuple-preserved t c =
+pub quantified_labels-loop-tuple-preserved : goal.quantified_labels-loop-tuple-preserved
+quantified_labels-loop-tuple-preserved t c =
     let a = c.args.along.now in
     let b = c.args.binder.now in
     let q : Quantifier = quantifier_of b in
@@ -526,13 +493,13 @@ instances_labels-loop-tuple-preserved t c =
           (subst (λ (x : Assignment). JoinsInstance (course_along a) (states_along a) c.args.span x q c.loop-tuple.all c.join_instance.new.all (Ok c.in_ok-join_instance-in-Some-2.field-0)) here c.in_ok-join_instance-in-Some-2.ensures.joined);
     }
 
-pub instances_labels-give_back-requires-clause-slots : goal.instances_labels-give_back-requires-clause-slots
-instances_labels-give_back-requires-clause-slots t c =
+pub quantified_labels-give_back-requires-clause-slots : goal.quantified_labels-give_back-requires-clause-slots
+quantified_labels-give_back-requires-clause-slots t c =
     let parts = parts-of c.args.along.now c.args.binder.now c.requires.fits in
     subst (Each (λ (s : Var). s.slot < 32)) (sym c.as_slice-vars.ensures) parts.in_frame
 
-pub instances_labels-returns-clause-labels : goal.instances_labels-returns-clause-labels
-instances_labels-returns-clause-labels t c =
+pub quantified_labels-returns-clause-labels : goal.quantified_labels-returns-clause-labels
+quantified_labels-returns-clause-labels t c =
     let a = c.args.along.now in
     let b = c.args.binder.now in
     let e = assignment_in c.args.env.now in
@@ -540,8 +507,8 @@ instances_labels-returns-clause-labels t c =
     let such = tuples-known a e b c.args.span c.in_ok-tuples.field-0 c.in-Some.tuples c.in-Some.is c.in_ok-tuples.ensures.tuples in
     joining-end (course_along a) (states_along a) e (quantifier_of b) parts.differ parts.occur c.args.span c.requires.span c.in-Some.tuples.facts.items such.have c.loop-tuple.all c.deref-tuple-items.result.now c.loop-tuple.tuple-index c.loop-tuple-test.false c.loop-tuple.invariant.so_far
 
-pub instances_labels-returns-in_err-join_instance-in-Some-2-clause-labels : goal.instances_labels-returns-in_err-join_instance-in-Some-2-clause-labels
-instances_labels-returns-in_err-join_instance-in-Some-2-clause-labels t c =
+pub quantified_labels-returns-in_err-join_instance-in-Some-2-clause-labels : goal.quantified_labels-returns-in_err-join_instance-in-Some-2-clause-labels
+quantified_labels-returns-in_err-join_instance-in-Some-2-clause-labels t c =
     let a = c.args.along.now in
     let b = c.args.binder.now in
     let p = course_along a in

@@ -32,10 +32,7 @@ abbrev pub decreases-join_part : goal.decreases-join_part
 decreases-join_part l = 1 + 4 * size (tree_of_formula l.part.now.formula.now)
 
 abbrev pub decreases-quantified_labels : goal.decreases-quantified_labels
-decreases-quantified_labels l = 3 + 4 * size (tree_of_formula l.binder.now.part.now)
-
-abbrev pub decreases-instances_labels : goal.decreases-instances_labels
-decreases-instances_labels l = 2 + 4 * size (tree_of_formula l.binder.now.part.now)
+decreases-quantified_labels l = 2 + 4 * size (tree_of_formula l.binder.now.part.now)
 
 abbrev pub decreases-join_instance : goal.decreases-join_instance
 decreases-join_instance l = 1 + 4 * size (tree_of_formula l.instance.now.binder.part.now)
@@ -46,8 +43,8 @@ invariant-parts_labels-loop-part l = record {
   so_far : PartsSoFar (course_along l.along) (assignment_in l.fn.env) (states_along l.along) l.span l.junction l.part-items (drop l.part-index l.part-items) l.all;
 }
 
-abbrev pub invariant-instances_labels-loop-tuple : goal.invariant-instances_labels-loop-tuple
-invariant-instances_labels-loop-tuple l = record {
+abbrev pub invariant-quantified_labels-loop-tuple : goal.invariant-quantified_labels-loop-tuple
+invariant-quantified_labels-loop-tuple l = record {
   counts : Each (IsTuple (length l.binder.vars.now)) l.tuple-items;
   scope : AgreeElsewhere l.binder.vars.now (assignment_in l.env) (assignment_in l.fn.env);
   slots : length l.env ≡ 32;

@@ -1,8 +1,8 @@
 use Rattle.std.proofs.Common.{length}
 use Rattle.tl_check.proofs.TupleLaws.{IsReading}
 use Rattle.tl_eval.proofs.TupleRest.{rest_after}
+use Rattle.tl_eval.specs.BoundTuples.{ReadsBound}
 use Rattle.tl_eval.specs.Frames.{assignment_in}
-use Rattle.tl_eval.specs.Reader.{ReadsTuples}
 use Rattle.tl_terms.specs.Bounds.{tuples}
 use Rattle.tl_terms.specs.Definitions.{situation_of}
 use Rattle.tl_terms.specs.ProblemMeaning.{plain_problem}
@@ -13,6 +13,6 @@ decreases-reading l = length (rest_after l.tuples.tuple (tuples (situation_of (p
 
 abbrev pub invariant-reading : goal.invariant-reading
 invariant-reading l = record {
-  reads : ReadsTuples l.binder.vars.now (assignment_in l.env) l.binder.bound.now l.tuples;
+  reads : ReadsBound (situation_of (plain_problem l.along.task.now.problem) l.w) l.binder.vars.now (assignment_in l.env) l.binder.bound.now l.tuples;
   so_far : IsReading (situation_of (plain_problem l.along.task.now.problem) l.w) (assignment_in l.env) l.binder.vars.now l.binder.bound.now l.tuples.tuple l.facts.items;
 }
