@@ -1,15 +1,21 @@
 -- Assignments that agree on the free slots of a tree give it one meaning.
-use Rattle.std.proofs.Common.{◌≡◌, ℕ, List, [], ◌∷◌, ◌++◌, filter, flat_map, length, Bool, true, false, true≢false, cond, not, ◌==◌, ◌&&◌, ◌||◌, Some, None, is_some, refl, sym, ap, ap₂, ◌∙◌, subst, eqb-true}
+use Rattle.std.proofs.Common.{◌≡◌, ℕ, List, [], ◌∷◌, ◌++◌, filter, flat_map, length, Bool, true, false, true≢false, cond, not, ◌==◌, ◌&&◌}
+use Rattle.std.proofs.Common.{◌||◌, Some, None, is_some, refl, sym, ap, ap₂, ◌∙◌, subst, eqb-true}
 use Rattle.std.specs.List.{list_any, list_all}
 use Rattle.tl_action.specs.Agreement.{Agree}
 use Rattle.tl_syntax.specs.Assignment.{Assignment, bind}
 use Rattle.tl_syntax.specs.Effects.{EffectTree, EffectTrees, add, del, assign, when, each, no_effect, more_effects}
-use Rattle.tl_syntax.specs.FreeVariables.{slots_of, arg_slots, bound_slots, is_slot_in, slots_without, term_slots, terms_slots, free_slots, all_free_slots, effect_slots, effects_slots, InScope}
+use Rattle.tl_syntax.specs.FreeVariables.{slots_of, arg_slots, bound_slots, is_slot_in, slots_without, term_slots, terms_slots, free_slots}
+use Rattle.tl_syntax.specs.FreeVariables.{all_free_slots, effect_slots, effects_slots, InScope}
 use Rattle.tl_syntax.specs.Lists.{Each}
-use Rattle.tl_syntax.specs.Trees.{TermTree, TermTrees, variable, value, place, arith, no_term, more_terms, FormulaTree, FormulaTrees, verum, falsum, atom, defined, compare, goal_fact, goal_place, goal_not, negation, conjunction, disjunction, for_all, for_some, next, always, eventually, until, within, during, no_formula, more_formulas}
+use Rattle.tl_syntax.specs.Trees.{TermTree, TermTrees, variable, value, place, arith, no_term, more_terms, FormulaTree, FormulaTrees, verum}
+use Rattle.tl_syntax.specs.Trees.{falsum, atom, defined, compare, goal_fact, goal_place, goal_not, negation, conjunction, disjunction}
+use Rattle.tl_syntax.specs.Trees.{for_all, for_some, next, always, eventually, until, within, during, no_formula, more_formulas}
 use Rattle.tl_syntax.proofs.ListLaws.{Each-append}
 use Rattle.tl_terms.specs.Bounds.{arg_value, arg_values, fact_in, same_value, bound_true, tuples, tuples_of}
-use Rattle.tl_terms.specs.Looked.{LookedTable, followed_if, is_defined_integer, operation_on, leaves_open, looked_in_term, looked_in_terms, looked_in_body, looked_in_turn, looked_in_state, looked_in_and, looked_in_or, looked_in_each, looked_in_effect, looked_in_effects}
+use Rattle.tl_terms.specs.Looked.{LookedTable, followed_if, is_defined_integer, operation_on, leaves_open, looked_in_term, looked_in_terms}
+use Rattle.tl_terms.specs.Looked.{looked_in_body, looked_in_turn, looked_in_state, looked_in_and, looked_in_or, looked_in_each}
+use Rattle.tl_terms.specs.Looked.{looked_in_effect, looked_in_effects}
 use Rattle.tl_terms.specs.Situation.{Situation}
 use Rattle.tl_terms.specs.Step.{adds, dels, sets, effect_instances, all_instances}
 use Rattle.tl_terms.specs.Terms.{apply_op, prepend, place_value, term_value, term_values}
@@ -28,18 +34,24 @@ pub agree-both : (xs ys : List ℕ) (d e : Assignment) → Agree (xs ++ ys) d e 
 agree-both xs ys d e h = (Each-append (λ q. d q ≡ e q) xs ys).0 h
 
 -- a slot that is none of the variables', or at which the two agree before
-pub bind-kept : (ss : List Var) (t : List Value) (d e : Assignment) (q : ℕ) → (is_slot_in (slots_of ss) q ≡ false → d q ≡ e q) → bind ss t d q ≡ bind ss t e q
+pub bind-kept : (ss : List Var) (t : List Value) (d e : Assignment) (q : ℕ) → (is_slot_in (slots_of ss) q ≡ false → d q ≡ e q) →
+    bind ss t d q ≡ bind ss t e q
 bind-kept [] t d e q h = h refl
-bind-kept (s ∷ ss) [] d e q h = (elim (q == s.slot) as (λ b. ((b || is_slot_in (slots_of ss) q) ≡ false → d q ≡ e q) → cond b None (bind ss [] d q) ≡ cond b None (bind ss [] e q)) [ true ↦ λ k. refl | false ↦ λ k. bind-kept ss [] d e q k ]) h
-bind-kept (s ∷ ss) (v ∷ t) d e q h = (elim (q == s.slot) as (λ b. ((b || is_slot_in (slots_of ss) q) ≡ false → d q ≡ e q) → cond b (Some v) (bind ss t d q) ≡ cond b (Some v) (bind ss t e q)) [ true ↦ λ k. refl | false ↦ λ k. bind-kept ss t d e q k ]) h
+bind-kept (s ∷ ss) [] d e q h = (elim (q == s.slot) as (λ b. ((b || is_slot_in (slots_of ss) q) ≡ false → d q ≡ e q) →
+    cond b None (bind ss [] d q) ≡ cond b None (bind ss [] e q)) [ true ↦ λ k. refl | false ↦ λ k. bind-kept ss [] d e q k ]) h
+bind-kept (s ∷ ss) (v ∷ t) d e q h = (elim (q == s.slot) as (λ b. ((b || is_slot_in (slots_of ss) q) ≡ false → d q ≡ e q) →
+    cond b (Some v) (bind ss t d q) ≡ cond b (Some v) (bind ss t e q)) [ true ↦ λ k. refl | false ↦ λ k. bind-kept ss t d e q k ]) h
 
 -- below a quantifier
-pub agree-below : (ss : List Var) (t : List Value) (d e : Assignment) (qs : List ℕ) → Agree (slots_without (slots_of ss) qs) d e → Agree qs (bind ss t d) (bind ss t e)
+pub agree-below : (ss : List Var) (t : List Value) (d e : Assignment) (qs : List ℕ) → Agree (slots_without (slots_of ss) qs) d e →
+    Agree qs (bind ss t d) (bind ss t e)
 agree-below ss t d e [] h = tt
-agree-below ss t d e (q ∷ qs) h = (elim (is_slot_in (slots_of ss) q) as (λ b. is_slot_in (slots_of ss) q ≡ b → Agree (cond (not b) (q ∷ slots_without (slots_of ss) qs) (slots_without (slots_of ss) qs)) d e → (bind ss t d q ≡ bind ss t e q) × Agree qs (bind ss t d) (bind ss t e)) [
-  | true ↦ λ x k. (bind-kept ss t d e q (λ z. absurd (true≢false (sym x ∙ z))), agree-below ss t d e qs k)
-  | false ↦ λ x k. (bind-kept ss t d e q (λ z. k.0), agree-below ss t d e qs k.1)
-]) refl h
+agree-below ss t d e (q ∷ qs) h = (elim (is_slot_in (slots_of ss) q) as
+    (λ b. is_slot_in (slots_of ss) q ≡ b → Agree (cond (not b) (q ∷ slots_without (slots_of ss) qs) (slots_without (slots_of ss) qs)) d e →
+    (bind ss t d q ≡ bind ss t e q) × Agree qs (bind ss t d) (bind ss t e)) [
+      | true ↦ λ x k. (bind-kept ss t d e q (λ z. absurd (true≢false (sym x ∙ z))), agree-below ss t d e qs k)
+      | false ↦ λ x k. (bind-kept ss t d e q (λ z. k.0), agree-below ss t d e qs k.1)
+    ]) refl h
 
 -- at a slot of the scope
 pub agree-at : (scope : List ℕ) (d e : Assignment) (q : ℕ) → Agree scope d e → is_slot_in scope q ≡ true → d q ≡ e q
@@ -56,22 +68,30 @@ agree-within scope (q ∷ qs) d e s h = (agree-at scope d e q h s.0, agree-withi
 
 pub slot-of-two : (xs ys : List ℕ) (q : ℕ) → is_slot_in (xs ++ ys) q ≡ (is_slot_in xs q || is_slot_in ys q)
 slot-of-two [] ys q = refl
-slot-of-two (x ∷ xs) ys q = (elim (q == x) as (λ b. (b || is_slot_in (xs ++ ys) q) ≡ ((b || is_slot_in xs q) || is_slot_in ys q)) [ true ↦ refl | false ↦ slot-of-two xs ys q ])
+slot-of-two (x ∷ xs) ys q = (elim (q == x) as (λ b. (b || is_slot_in (xs ++ ys) q) ≡
+    ((b || is_slot_in xs q) || is_slot_in ys q)) [ true ↦ refl | false ↦ slot-of-two xs ys q ])
 
 -- below further variables, at slots that are theirs or of the scope around
-pub agree-under : (ss : List Var) (t : List Value) (around qs : List ℕ) (d e : Assignment) → InScope (slots_of ss ++ around) qs → Agree around d e → Agree qs (bind ss t d) (bind ss t e)
+pub agree-under : (ss : List Var) (t : List Value) (around qs : List ℕ) (d e : Assignment) → InScope (slots_of ss ++ around) qs →
+    Agree around d e → Agree qs (bind ss t d) (bind ss t e)
 agree-under ss t around [] d e s h = tt
-agree-under ss t around (q ∷ qs) d e s h =
-    (bind-kept ss t d e q (λ x. agree-at around d e q h (ap (λ (b : Bool). b || is_slot_in around q) (sym x) ∙ (sym (slot-of-two (slots_of ss) around q) ∙ s.0))), agree-under ss t around qs d e s.1 h)
+agree-under ss t around (q ∷ qs) d e s h = (
+  bind-kept ss t d e q (λ x. agree-at around d e q h (ap (λ (b : Bool). b || is_slot_in around q) (sym x) ∙
+      (sym (slot-of-two (slots_of ss) around q) ∙ s.0))),
+  agree-under ss t around qs d e s.1 h,
+)
 
 -- the other slots
 pub bind-past : (ss : List Var) (t : List Value) (e : Assignment) (q : ℕ) → is_slot_in (slots_of ss) q ≡ false → bind ss t e q ≡ e q
 bind-past [] t e q h = refl
-bind-past (s ∷ ss) [] e q h = (elim (q == s.slot) as (λ b. (b || is_slot_in (slots_of ss) q) ≡ false → cond b None (bind ss [] e q) ≡ e q) [ true ↦ λ k. absurd (true≢false k) | false ↦ λ k. bind-past ss [] e q k ]) h
-bind-past (s ∷ ss) (v ∷ t) e q h = (elim (q == s.slot) as (λ b. (b || is_slot_in (slots_of ss) q) ≡ false → cond b (Some v) (bind ss t e q) ≡ e q) [ true ↦ λ k. absurd (true≢false k) | false ↦ λ k. bind-past ss t e q k ]) h
+bind-past (s ∷ ss) [] e q h = (elim (q == s.slot) as (λ b. (b || is_slot_in (slots_of ss) q) ≡ false → cond b None (bind ss [] e q) ≡
+    e q) [ true ↦ λ k. absurd (true≢false k) | false ↦ λ k. bind-past ss [] e q k ]) h
+bind-past (s ∷ ss) (v ∷ t) e q h = (elim (q == s.slot) as (λ b. (b || is_slot_in (slots_of ss) q) ≡ false →
+    cond b (Some v) (bind ss t e q) ≡ e q) [ true ↦ λ k. absurd (true≢false k) | false ↦ λ k. bind-past ss t e q k ]) h
 
 -- the slots that are not the variables' keep their values
-pub bind-leaves : (ss : List Var) (t : List Value) (e : Assignment) (qs : List ℕ) → Each (λ q. is_slot_in (slots_of ss) q ≡ false) qs → Agree qs (bind ss t e) e
+pub bind-leaves : (ss : List Var) (t : List Value) (e : Assignment) (qs : List ℕ) → Each (λ q. is_slot_in (slots_of ss) q ≡ false) qs →
+    Agree qs (bind ss t e) e
 bind-leaves ss t e [] h = tt
 bind-leaves ss t e (q ∷ qs) h = (bind-past ss t e q h.0, bind-leaves ss t e qs h.1)
 
@@ -91,10 +111,12 @@ arg-agrees (arg.Val v) d e h = refl
 
 args-agree : (xs : List Arg) (d e : Assignment) → Agree (flat_map arg_slots xs) d e → arg_values d xs ≡ arg_values e xs
 args-agree [] d e h = refl
-args-agree (x ∷ xs) d e h = let k = agree-both (arg_slots x) (flat_map arg_slots xs) d e h in ap₂ prepend (arg-agrees x d e k.0) (args-agree xs d e k.1)
+args-agree (x ∷ xs) d e h = let k = agree-both (arg_slots x) (flat_map arg_slots xs) d e h in
+    ap₂ prepend (arg-agrees x d e k.0) (args-agree xs d e k.1)
 
 -- an argument and others
-value-and-args : (x : Arg) (xs : List Arg) (d e : Assignment) → Agree (flat_map arg_slots (x ∷ xs)) d e → (arg_value d x ≡ arg_value e x) × (arg_values d xs ≡ arg_values e xs)
+value-and-args : (x : Arg) (xs : List Arg) (d e : Assignment) → Agree (flat_map arg_slots (x ∷ xs)) d e → (arg_value d x ≡ arg_value e x) ×
+    (arg_values d xs ≡ arg_values e xs)
 value-and-args x xs d e h = let k = agree-both (arg_slots x) (flat_map arg_slots xs) d e h in (arg-agrees x d e k.0, args-agree xs d e k.1)
 
 pub bound-agrees : (s : Situation) (b : Bound) (d e : Assignment) → Agree (bound_slots b) d e → bound_true s d b ≡ bound_true s e b
@@ -105,9 +127,11 @@ bound-agrees s (bound.GoalFact p xs) d e h = ap (fact_in s.goal p) (args-agree x
 bound-agrees s (bound.GoalPlace f xs x) d e h = let k = value-and-args x xs d e h in λ i. same_value (place_value s.goal f (k.1 i)) (k.0 i)
 bound-agrees s (bound.GoalNot p xs) d e h = ap (fact_in s.avoid p) (args-agree xs d e h)
 
-pub tuples-agree : (s : Situation) (ss : List Var) (b : Bound) (d e : Assignment) → ((t : List Value) → Agree (bound_slots b) (bind ss t d) (bind ss t e)) → tuples s d ss b ≡ tuples s e ss b
+pub tuples-agree : (s : Situation) (ss : List Var) (b : Bound) (d e : Assignment) →
+    ((t : List Value) → Agree (bound_slots b) (bind ss t d) (bind ss t e)) → tuples s d ss b ≡ tuples s e ss b
 unfolding tuples
-tuples-agree s ss b d e h = λ i. filter (λ t. bound-agrees s b (bind ss t d) (bind ss t e) (h t) i) (tuples_of (values_of (s.world ∷ s.goal ∷ s.avoid ∷ [])) (length ss))
+tuples-agree s ss b d e h = λ i. filter (λ t. bound-agrees s b (bind ss t d) (bind ss t e) (h t) i)
+    (tuples_of (values_of (s.world ∷ s.goal ∷ s.avoid ∷ [])) (length ss))
 
 -- ---- terms
 
@@ -167,35 +191,43 @@ record PartsAgree (l : LookedTable) (s : Situation) (d e : Assignment) (fs : For
 mutual
   unfolding state_true looked_in_state free_slots
 
-  pub state-agrees : (l : LookedTable) (s : Situation) (d e : Assignment) (f : FormulaTree) → Agree (free_slots f) d e → StateAgrees l s d e f
+  pub state-agrees : (l : LookedTable) (s : Situation) (d e : Assignment) (f : FormulaTree) → Agree (free_slots f) d e →
+      StateAgrees l s d e f
   state-agrees l s d e verum h = record { truth = refl; looked = refl }
   state-agrees l s d e falsum h = record { truth = refl; looked = refl }
-  state-agrees l s d e (atom p ts) h = let k = terms-agree s.world d e ts h in record { truth = ap (fact_in s.world p) k.values; looked = k.looked }
-  state-agrees l s d e (defined p ts) h = let k = terms-agree s.world d e ts h in record { truth = ap (defined_true s.table p) k.values; looked = λ i. k.looked i ++ looked_in_body l p (k.values i) }
+  state-agrees l s d e (atom p ts) h = let k = terms-agree s.world d e ts h in
+      record { truth = ap (fact_in s.world p) k.values; looked = k.looked }
+  state-agrees l s d e (defined p ts) h = let k = terms-agree s.world d e ts h in
+      record { truth = ap (defined_true s.table p) k.values; looked = λ i. k.looked i ++ looked_in_body l p (k.values i) }
   state-agrees l s d e (compare c x y) h =
       let both = agree-both (term_slots x) (term_slots y) d e h in
       let a = term-agrees s.world d e x both.0 in
       let b = term-agrees s.world d e y both.1 in
       record { truth = ap₂ (compared c) a.value b.value; looked = λ i. followed_if (leaves_open c (a.value i)) (a.looked i) (b.looked i) }
   state-agrees l s d e (goal_fact p xs) h = record { truth = ap (fact_in s.goal p) (args-agree xs d e h); looked = refl }
-  state-agrees l s d e (goal_place f xs x) h = let k = value-and-args x xs d e h in record { truth = λ i. same_value (place_value s.goal f (k.1 i)) (k.0 i); looked = refl }
+  state-agrees l s d e (goal_place f xs x) h = let k = value-and-args x xs d e h in
+      record { truth = λ i. same_value (place_value s.goal f (k.1 i)) (k.0 i); looked = refl }
   state-agrees l s d e (goal_not p xs) h = record { truth = ap (fact_in s.avoid p) (args-agree xs d e h); looked = refl }
   state-agrees l s d e (negation f) h = let k = state-agrees l s d e f h in record { truth = ap not k.truth; looked = k.looked }
   state-agrees l s d e (conjunction fs) h = let k = parts-agree l s d e fs h in record { truth = k.all; looked = k.looked_and }
   state-agrees l s d e (disjunction fs) h = let k = parts-agree l s d e fs h in record { truth = k.one; looked = k.looked_or }
   state-agrees l s d e (for_all ss b f) h =
-      let both = λ (t : List Value). agree-both (bound_slots b) (free_slots f) (bind ss t d) (bind ss t e) (agree-below ss t d e (bound_slots b ++ free_slots f) h) in
+      let both = λ (t : List Value). agree-both (bound_slots b) (free_slots f) (bind ss t d) (bind ss t e)
+      (agree-below ss t d e (bound_slots b ++ free_slots f) h) in
       let ts = tuples-agree s ss b d e (λ t. (both t).0) in
       record {
         truth = λ i. list_all (λ t. (state-agrees l s (bind ss t d) (bind ss t e) f (both t).1).truth i) (ts i);
-        looked = λ i. looked_in_turn (λ t. (state-agrees l s (bind ss t d) (bind ss t e) f (both t).1).looked i) (λ t. (state-agrees l s (bind ss t d) (bind ss t e) f (both t).1).truth i) (ts i);
+        looked = λ i. looked_in_turn (λ t. (state-agrees l s (bind ss t d) (bind ss t e) f (both t).1).looked i)
+            (λ t. (state-agrees l s (bind ss t d) (bind ss t e) f (both t).1).truth i) (ts i);
       }
   state-agrees l s d e (for_some ss b f) h =
-      let both = λ (t : List Value). agree-both (bound_slots b) (free_slots f) (bind ss t d) (bind ss t e) (agree-below ss t d e (bound_slots b ++ free_slots f) h) in
+      let both = λ (t : List Value). agree-both (bound_slots b) (free_slots f) (bind ss t d) (bind ss t e)
+      (agree-below ss t d e (bound_slots b ++ free_slots f) h) in
       let ts = tuples-agree s ss b d e (λ t. (both t).0) in
       record {
         truth = λ i. list_any (λ t. (state-agrees l s (bind ss t d) (bind ss t e) f (both t).1).truth i) (ts i);
-        looked = λ i. looked_in_turn (λ t. (state-agrees l s (bind ss t d) (bind ss t e) f (both t).1).looked i) (λ t. not ((state-agrees l s (bind ss t d) (bind ss t e) f (both t).1).truth i)) (ts i);
+        looked = λ i. looked_in_turn (λ t. (state-agrees l s (bind ss t d) (bind ss t e) f (both t).1).looked i)
+            (λ t. not ((state-agrees l s (bind ss t d) (bind ss t e) f (both t).1).truth i)) (ts i);
       }
   state-agrees l s d e (next f) h = record { truth = refl; looked = refl }
   state-agrees l s d e (always f) h = record { truth = refl; looked = refl }
@@ -204,7 +236,8 @@ mutual
   state-agrees l s d e (within n f) h = record { truth = refl; looked = refl }
   state-agrees l s d e (during n f) h = record { truth = refl; looked = refl }
 
-  parts-agree : (l : LookedTable) (s : Situation) (d e : Assignment) (fs : FormulaTrees) → Agree (all_free_slots fs) d e → PartsAgree l s d e fs
+  parts-agree : (l : LookedTable) (s : Situation) (d e : Assignment) (fs : FormulaTrees) → Agree (all_free_slots fs) d e →
+      PartsAgree l s d e fs
   parts-agree l s d e no_formula h = record { all = refl; one = refl; looked_and = refl; looked_or = refl }
   parts-agree l s d e (more_formulas f fs) h =
       let both = agree-both (free_slots f) (all_free_slots fs) d e h in
@@ -232,9 +265,12 @@ pub record EffectsAgree (l : LookedTable) (s : Situation) (d e : Assignment) (xs
 mutual
   unfolding effect_instances looked_in_effect effect_slots
 
-  pub effect-agrees : (l : LookedTable) (s : Situation) (d e : Assignment) (x : EffectTree) → Agree (effect_slots x) d e → EffectAgrees l s d e x
-  effect-agrees l s d e (add p ts) h = let k = terms-agree s.world d e ts h in record { instances = λ i. adds p (k.values i) ∷ []; looked = k.looked_each }
-  effect-agrees l s d e (del p ts) h = let k = terms-agree s.world d e ts h in record { instances = λ i. dels p (k.values i) ∷ []; looked = k.looked_each }
+  pub effect-agrees : (l : LookedTable) (s : Situation) (d e : Assignment) (x : EffectTree) → Agree (effect_slots x) d e →
+      EffectAgrees l s d e x
+  effect-agrees l s d e (add p ts) h = let k = terms-agree s.world d e ts h in
+      record { instances = λ i. adds p (k.values i) ∷ []; looked = k.looked_each }
+  effect-agrees l s d e (del p ts) h = let k = terms-agree s.world d e ts h in
+      record { instances = λ i. dels p (k.values i) ∷ []; looked = k.looked_each }
   effect-agrees l s d e (assign f ts t) h =
       let both = agree-both (terms_slots ts) (term_slots t) d e h in
       let a = terms-agree s.world d e ts both.0 in
@@ -246,14 +282,16 @@ mutual
       let b = effects-agree l s d e xs both.1 in
       record { instances = λ i. cond (a.truth i) (b.instances i) []; looked = λ i. followed_if (a.truth i) (a.looked i) (b.looked i) }
   effect-agrees l s d e (each ss b xs) h =
-      let both = λ (t : List Value). agree-both (bound_slots b) (effects_slots xs) (bind ss t d) (bind ss t e) (agree-below ss t d e (bound_slots b ++ effects_slots xs) h) in
+      let both = λ (t : List Value). agree-both (bound_slots b) (effects_slots xs) (bind ss t d) (bind ss t e)
+      (agree-below ss t d e (bound_slots b ++ effects_slots xs) h) in
       let ts = tuples-agree s ss b d e (λ t. (both t).0) in
       record {
         instances = λ i. flat_map (λ t. (effects-agree l s (bind ss t d) (bind ss t e) xs (both t).1).instances i) (ts i);
         looked = λ i. flat_map (λ t. (effects-agree l s (bind ss t d) (bind ss t e) xs (both t).1).looked i) (ts i);
       }
 
-  pub effects-agree : (l : LookedTable) (s : Situation) (d e : Assignment) (xs : EffectTrees) → Agree (effects_slots xs) d e → EffectsAgree l s d e xs
+  pub effects-agree : (l : LookedTable) (s : Situation) (d e : Assignment) (xs : EffectTrees) → Agree (effects_slots xs) d e →
+      EffectsAgree l s d e xs
   effects-agree l s d e no_effect h = record { instances = refl; looked = refl }
   effects-agree l s d e (more_effects x xs) h =
       let both = agree-both (effect_slots x) (effects_slots xs) d e h in

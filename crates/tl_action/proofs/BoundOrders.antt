@@ -1,10 +1,12 @@
 -- An operator with its bounds in another order.
-use Rattle.std.proofs.Common.{◌≡◌, ◌↔◌, ◌<◌, ◌≤◌, ◌-◌, ℕ, zero, suc, List, [], ◌∷◌, length, get_or, Bool, true, false, true≢false, ◌||◌, IsTrue, inl, inr, refl, sym, ap, ◌∙◌, arith}
+use Rattle.std.proofs.Common.{◌≡◌, ◌↔◌, ◌<◌, ◌≤◌, ◌-◌, ℕ, zero, suc, List, [], ◌∷◌, length, get_or, Bool, true, false, true≢false, ◌||◌}
+use Rattle.std.proofs.Common.{IsTrue, inl, inr, refl, sym, ap, ◌∙◌, arith}
 use Rattle.std.specs.List.{list_any}
 use Rattle.tl_action.specs.declared.arranged.Arranged.{Arranged}
 use Rattle.tl_eval.specs.declared.fault.EvalFault.{EvalFault}
 use Rattle.tl_eval.specs.declared.fault.EvalFault.TheVariants as fault
-use Rattle.tl_action.specs.Join.{arranged, bound_count, behind_first, moved_first, HaveSame, with_bounds, row_assignment, IsCompletion, IsRowFault}
+use Rattle.tl_action.specs.Join.{arranged, bound_count, behind_first, moved_first, HaveSame, with_bounds, row_assignment, IsCompletion}
+use Rattle.tl_action.specs.Join.{IsRowFault}
 use Rattle.tl_action.specs.RowLists.{AreRowsOf}
 use Rattle.tl_syntax.specs.declared.bound.Bound.{Bound}
 use Rattle.tl_syntax.specs.declared.operator.Operator.{Operator}
@@ -94,17 +96,21 @@ module _ (a : Arranged) (bs : List Bound) (same : bs ≡ a.operator.now.bounds) 
   inside = let many = moved-length a.operator.now.bounds a.first in a.within (omega (arith, many, h))
 
   pub at-first : j ≡ 0 → b ≡ get_or bs a.first b → b ≡ get_or (arranged a).bounds j b
-  at-first z q = q ∙ (ap (λ (xs : List Bound). get_or xs a.first b) same ∙ (sym (moved-it a.operator.now.bounds a.first b inside) ∙ ap (λ (i : ℕ). get_or (arranged a).bounds i b) (sym z)))
+  at-first z q = q ∙ (ap (λ (xs : List Bound). get_or xs a.first b) same ∙
+      (sym (moved-it a.operator.now.bounds a.first b inside) ∙ ap (λ (i : ℕ). get_or (arranged a).bounds i b) (sym z)))
 
   pub at-before : 0 < j → j ≤ a.first → b ≡ get_or bs (j - 1) b → b ≡ get_or (arranged a).bounds j b
   at-before p l q =
       let next : suc (j - 1) ≡ j = omega (arith, p) in
-      q ∙ (ap (λ (xs : List Bound). get_or xs (j - 1) b) same ∙ (sym (moved-before a.operator.now.bounds a.first (j - 1) b inside (omega (arith, p, l))) ∙ ap (λ (i : ℕ). get_or (arranged a).bounds i b) next))
+      q ∙ (ap (λ (xs : List Bound). get_or xs (j - 1) b) same ∙ (sym (moved-before a.operator.now.bounds a.first (j - 1) b inside
+      (omega (arith, p, l))) ∙ ap (λ (i : ℕ). get_or (arranged a).bounds i b) next))
 
   pub at-after : a.first < j → b ≡ get_or bs j b → b ≡ get_or (arranged a).bounds j b
   at-after l q =
       let next : suc (j - 1) ≡ j = omega (arith, l) in
-      q ∙ (ap (λ (xs : List Bound). get_or xs j b) same ∙ (ap (λ (i : ℕ). get_or a.operator.now.bounds i b) (sym next) ∙ (sym (moved-after a.operator.now.bounds a.first (j - 1) b (omega (arith, l))) ∙ ap (λ (i : ℕ). get_or (arranged a).bounds i b) next)))
+      q ∙ (ap (λ (xs : List Bound). get_or xs j b) same ∙ (ap (λ (i : ℕ). get_or a.operator.now.bounds i b) (sym next) ∙
+      (sym (moved-after a.operator.now.bounds a.first (j - 1) b (omega (arith, l))) ∙
+      ap (λ (i : ℕ). get_or (arranged a).bounds i b) next)))
 
 pub arranged-same : (a : Arranged) → HaveSame a.operator.now.bounds (arranged a).bounds
 arranged-same a = have-same a.operator.now.bounds a.first
@@ -124,22 +130,25 @@ any-in s (c ∷ bs) b m h = elim m [
 
 any-out : (s : Var) (bs : List Bound) → list_any (stands_in s) bs ≡ true → (b : Bound) × Among b bs × (stands_in s b ≡ true)
 any-out s [] h = absurd (true≢false (sym h))
-any-out s (c ∷ bs) h = (elim (stands_in s c) as (λ x. stands_in s c ≡ x → (x || list_any (stands_in s) bs) ≡ true → (b : Bound) × Among b (c ∷ bs) × (stands_in s b ≡ true)) [
-  | true ↦ λ e k. (c, inl refl, e)
-  | false ↦ λ e k. let w = any-out s bs k in (w.0, inr w.1, w.2)
-]) refl h
+any-out s (c ∷ bs) h = (elim (stands_in s c) as (λ x. stands_in s c ≡ x → (x || list_any (stands_in s) bs) ≡ true → (b : Bound) ×
+    Among b (c ∷ bs) × (stands_in s b ≡ true)) [
+      | true ↦ λ e k. (c, inl refl, e)
+      | false ↦ λ e k. let w = any-out s bs k in (w.0, inr w.1, w.2)
+    ]) refl h
 
 any-with : (s : Var) (bs cs : List Bound) → HaveSame bs cs → list_any (stands_in s) bs ≡ true → list_any (stands_in s) cs ≡ true
 any-with s bs cs same h = let w = any-out s bs h in any-in s cs w.0 ((same w.0).1 w.1) w.2
 
-bounded-with : (bs cs : List Bound) (ss : List Var) → HaveSame bs cs → Each (λ s. IsTrue (list_any (stands_in s) bs)) ss → Each (λ s. IsTrue (list_any (stands_in s) cs)) ss
+bounded-with : (bs cs : List Bound) (ss : List Var) → HaveSame bs cs → Each (λ s. IsTrue (list_any (stands_in s) bs)) ss →
+    Each (λ s. IsTrue (list_any (stands_in s) cs)) ss
 bounded-with bs cs [] same h = tt
 bounded-with bs cs (s ∷ ss) same h = (any-with s bs cs same h.0, bounded-with bs cs ss same h.1)
 
 each-with : (P : Bound → Type 0) (bs cs : List Bound) → HaveSame bs cs → Each P bs → Each P cs
 each-with P bs cs same h = (Each-Among P cs).1 (λ b m. (Each-Among P bs).0 h b ((same b).0 m))
 
-pub keeps-with : (g : Signature) (n : ℕ) (o : Operator) (bs : List Bound) → HaveSame o.bounds bs → OperatorKeeps g n o → OperatorKeeps g n (with_bounds o bs)
+pub keeps-with : (g : Signature) (n : ℕ) (o : Operator) (bs : List Bound) → HaveSame o.bounds bs → OperatorKeeps g n o →
+    OperatorKeeps g n (with_bounds o bs)
 keeps-with g n o bs same k = record {
   name = k.name;
   params = k.params;
@@ -164,21 +173,25 @@ arranged-keeps g n a k = keeps-with g n a.operator.now (arranged a).bounds (arra
 -- ---- its rows
 
 module _ (p : PlainProblem) (w : World) (o : Operator) (bs : List Bound) (same : HaveSame o.bounds bs) (e : Assignment) where
-  back : (t : List Value) → IsCompletion p w (plain_operator (with_bounds o bs)) [] bs e t → IsCompletion p w (plain_operator o) [] o.bounds e t
+  back : (t : List Value) → IsCompletion p w (plain_operator (with_bounds o bs)) [] bs e t →
+      IsCompletion p w (plain_operator o) [] o.bounds e t
   back t h = record {
     arity = h.arity;
     agrees = h.agrees;
-    bounds = each-with (λ b. bound_true (situation_of p w) (row_assignment (plain_operator o) t) b ≡ true) bs o.bounds (λ b. ((same b).1, (same b).0)) h.bounds;
+    bounds = each-with (λ b. bound_true (situation_of p w) (row_assignment (plain_operator o) t) b ≡ true) bs o.bounds
+        (λ b. ((same b).1, (same b).0)) h.bounds;
   }
 
-  there : (t : List Value) → IsCompletion p w (plain_operator o) [] o.bounds e t → IsCompletion p w (plain_operator (with_bounds o bs)) [] bs e t
+  there : (t : List Value) → IsCompletion p w (plain_operator o) [] o.bounds e t →
+      IsCompletion p w (plain_operator (with_bounds o bs)) [] bs e t
   there t h = record {
     arity = h.arity;
     agrees = h.agrees;
     bounds = each-with (λ b. bound_true (situation_of p w) (row_assignment (plain_operator o) t) b ≡ true) o.bounds bs same h.bounds;
   }
 
-  pub rows-with : (rows : List (List Value)) → AreRowsOf p w (plain_operator (with_bounds o bs)) e rows → AreRowsOf p w (plain_operator o) e rows
+  pub rows-with : (rows : List (List Value)) → AreRowsOf p w (plain_operator (with_bounds o bs)) e rows →
+      AreRowsOf p w (plain_operator o) e rows
   rows-with rows h = record {
     all = λ t. (
       λ m. let f = (h.all t).0 m in record { completes = back t f.completes; prepared = f.prepared },
@@ -187,6 +200,7 @@ module _ (p : PlainProblem) (w : World) (o : Operator) (bs : List Bound) (same :
     order = h.order;
   }
 
-  pub fault-with : (x : EvalFault) → IsRowFault p w (plain_operator (with_bounds o bs)) [] bs e x → IsRowFault p w (plain_operator o) [] o.bounds e x
+  pub fault-with : (x : EvalFault) → IsRowFault p w (plain_operator (with_bounds o bs)) [] bs e x →
+      IsRowFault p w (plain_operator o) [] o.bounds e x
   fault-with (fault.Range note) h = (h.0, back h.0 h.1, h.2)
   fault-with fault.NoMemory h = tt

@@ -1,5 +1,6 @@
 -- The tuples of a bound in turn.
-use Rattle.std.proofs.Common.{◌≡◌, ◌<◌, List, [], ◌∷◌, ◌++◌, append_assoc, append-nil, length, Option, Some, None, inl, inr, refl, sym, ap, ◌∙◌, subst, arith}
+use Rattle.std.proofs.Common.{◌≡◌, ◌<◌, List, [], ◌∷◌, ◌++◌, append_assoc, append-nil, length, Option, Some, None, inl, inr, refl, sym, ap}
+use Rattle.std.proofs.Common.{◌∙◌, subst, arith}
 use Rattle.tl_eval.proofs.TupleRest.{rest_after, all-after-none, rest-none, rest-some}
 use Rattle.tl_syntax.specs.declared.bound.Bound.{Bound}
 use Rattle.tl_syntax.specs.declared.value.Value.{Value}
@@ -25,7 +26,8 @@ module _ (s : Situation) (e : Assignment) (ss : List Var) (b : Bound) where
   pub none-done : left None ≡ all
   none-done = sym (all-after-none all)
 
-module _ (s : Situation) (e : Assignment) (ss : List Var) (b : Bound) (d : DifferInSlot ss) (o : OccurIn ss b) (after next : Option (List Value)) (n : IsNext (length ss) (λ t. bound_true s (bind ss t e) b) after next) where
+module _ (s : Situation) (e : Assignment) (ss : List Var) (b : Bound) (d : DifferInSlot ss) (o : OccurIn ss b)
+    (after next : Option (List Value)) (n : IsNext (length ss) (λ t. bound_true s (bind ss t e) b) after next) where
   -- the next tuple is the first of what is left
   pub first-left : (t : List Value) → next ≡ Some t → left s e ss b after ≡ t ∷ left s e ss b (Some t)
   first-left t q = rest-some s e ss b d o after t (subst (IsNext (length ss) (λ t. bound_true s (bind ss t e) b) after) q n)
@@ -38,10 +40,12 @@ module _ (s : Situation) (e : Assignment) (ss : List Var) (b : Bound) (d : Diffe
 
   module _ (done : List (List Value)) (h : done ++ left s e ss b after ≡ all s e ss b) where
     pub done-on : (t : List Value) → next ≡ Some t → (done ++ t ∷ []) ++ left s e ss b (Some t) ≡ all s e ss b
-    done-on t q = append_assoc done (t ∷ []) (left s e ss b (Some t)) ∙ (ap (λ (ts : List (List Value)). done ++ ts) (sym (first-left t q)) ∙ h)
+    done-on t q = append_assoc done (t ∷ []) (left s e ss b (Some t)) ∙
+        (ap (λ (ts : List (List Value)). done ++ ts) (sym (first-left t q)) ∙ h)
 
     pub done-all : next ≡ None → done ≡ all s e ss b
     done-all q = sym (append-nil done) ∙ (ap (λ (ts : List (List Value)). done ++ ts) (sym (none-left q)) ∙ h)
 
     pub next-among : (t : List Value) → next ≡ Some t → Among t (all s e ss b)
-    next-among t q = subst (Among t) (ap (λ (ts : List (List Value)). done ++ ts) (sym (first-left t q)) ∙ h) ((One-append (λ u. u ≡ t) done (t ∷ left s e ss b (Some t))).1 (inr (inl refl)))
+    next-among t q = subst (Among t) (ap (λ (ts : List (List Value)). done ++ ts) (sym (first-left t q)) ∙ h)
+        ((One-append (λ u. u ≡ t) done (t ∷ left s e ss b (Some t))).1 (inr (inl refl)))

@@ -1,5 +1,6 @@
 -- The values of variables in a frame in turn.
-use Rattle.std.proofs.Common.{◌≡◌, ◌<◌, ◌≤◌, ◌+◌, ℕ, List, [], ◌∷◌, ◌++◌, drop, append-nil, length, get_or, Option, Some, None, sym, ap, ◌∙◌, subst}
+use Rattle.std.proofs.Common.{◌≡◌, ◌<◌, ◌≤◌, ◌+◌, ℕ, List, [], ◌∷◌, ◌++◌, drop, append-nil, length, get_or, Option, Some, None, sym, ap}
+use Rattle.std.proofs.Common.{◌∙◌, subst}
 use Rattle.tl_action.specs.Join.{variables}
 use Rattle.tl_action.proofs.TermLists.{prefixed-nothing, prefixed-more}
 use Rattle.tl_action.proofs.Walks.{drop-opened, drop-past}
@@ -18,7 +19,8 @@ pub row-begun : (w : World) (e : Assignment) (ss : List Var) (row : List Value) 
 row-begun w e ss row z =
     let all = term_values w e (variables ss) in prefixed-nothing all ∙ ap (λ (vs : List Value). prefixed vs all) (sym z)
 
-module _ (w : World) (e : Assignment) (all ss : List Var) (i : ℕ) (s : Var) (row : List Value) (k : i < length ss) (n : s ≡ get_or ss i s) (h : RowPassed w e all (drop i ss) row) where
+module _ (w : World) (e : Assignment) (all ss : List Var) (i : ℕ) (s : Var) (row : List Value) (k : i < length ss) (n : s ≡ get_or ss i s)
+    (h : RowPassed w e all (drop i ss) row) where
   abbrev pub others : Option (List Value)
   others = term_values w e (variables (drop (i + 1) ss))
 
@@ -28,12 +30,15 @@ module _ (w : World) (e : Assignment) (all ss : List Var) (i : ℕ) (s : Var) (r
 
   pub row-on : (more : List Value) (v : Value) → Some v ≡ e s.slot → more ≡ row ++ v ∷ [] → RowPassed w e all (drop (i + 1) ss) more
   row-on more v m z =
-      opened ∙ (ap (λ (o : Option Value). prefixed row (prepend o others)) (sym m) ∙ (prefixed-more row v others ∙ ap (λ (vs : List Value). prefixed vs others) (sym z)))
+      opened ∙ (ap (λ (o : Option Value). prefixed row (prepend o others)) (sym m) ∙
+      (prefixed-more row v others ∙ ap (λ (vs : List Value). prefixed vs others) (sym z)))
 
-  pub row-undefined : let none : Option Value = None in none ≡ e s.slot → let no : Option (List Value) = None in no ≡ term_values w e (variables all)
+  pub row-undefined : let none : Option Value = None in none ≡ e s.slot → let no : Option (List Value) = None in no ≡
+      term_values w e (variables all)
   row-undefined m = sym (opened ∙ ap (λ (o : Option Value). prefixed row (prepend o others)) (sym m))
 
-pub row-ended : (w : World) (e : Assignment) (all ss : List Var) (i : ℕ) (row : List Value) → length ss ≤ i → RowPassed w e all (drop i ss) row → Some row ≡ term_values w e (variables all)
+pub row-ended : (w : World) (e : Assignment) (all ss : List Var) (i : ℕ) (row : List Value) → length ss ≤ i →
+    RowPassed w e all (drop i ss) row → Some row ≡ term_values w e (variables all)
 unfolding term_values
 row-ended w e all ss i row k h =
     let ended : RowPassed w e all [] row = subst (λ (us : List Var). RowPassed w e all us row) (drop-past ss i k) h in

@@ -1,5 +1,6 @@
 -- The values of actions are those of worlds.
-use Rattle.std.proofs.Common.{◌≡◌, ℕ, zero, suc, List, [], ◌∷◌, map, length, slice_get, true, false, true≢false, ◌==◌, ◌||◌, Some, None, is_some, IsTrue, refl, sym, ap, ◌∙◌, subst, eqb-true}
+use Rattle.std.proofs.Common.{◌≡◌, ℕ, zero, suc, List, [], ◌∷◌, map, length, slice_get, true, false, true≢false, ◌==◌, ◌||◌, Some, None}
+use Rattle.std.proofs.Common.{is_some, IsTrue, refl, sym, ap, ◌∙◌, subst, eqb-true}
 use Rattle.std.specs.List.{list_any}
 use Rattle.tl_action.specs.Join.{row_assignment, variables, IsFound}
 use Rattle.tl_action.specs.Actions.{ArgumentsAreNamed}
@@ -40,7 +41,8 @@ use Rattle.tl_terms.proofs.NamedWorlds.{goal-named, avoid-named}
 abbrev Has : ℕ → Assignment → Var → Type 0
 Has n e s = (v : Value) × (e s.slot ≡ Some v) × ValueIsNamed n v
 
-args-named : (n : ℕ) (e : Assignment) (xs : List Arg) (vs : List Value) (s : Var) → arg_values e xs ≡ Some vs → Each (ValueIsNamed n) vs → list_any (is_that_variable s) xs ≡ true → Has n e s
+args-named : (n : ℕ) (e : Assignment) (xs : List Arg) (vs : List Value) (s : Var) → arg_values e xs ≡ Some vs → Each (ValueIsNamed n) vs →
+    list_any (is_that_variable s) xs ≡ true → Has n e s
 args-named n e [] vs s q h k = absurd (true≢false (sym k))
 args-named n e (arg.Val v ∷ xs) vs s q h k =
     let parts = prepend-parts (Some v) (arg_values e xs) vs q in
@@ -53,30 +55,37 @@ args-named n e (arg.Var u ∷ xs) vs s q h k =
       | false ↦ λ z m. args-named n e xs parts.1 s parts.3 named.1 m
     ]) refl k
 
-fact-named : (n : ℕ) (w : World) (p : ℕ) (e : Assignment) (xs : List Arg) (s : Var) → WorldIsNamed n w → fact_in w p (arg_values e xs) ≡ true → list_any (is_that_variable s) xs ≡ true → Has n e s
+fact-named : (n : ℕ) (w : World) (p : ℕ) (e : Assignment) (xs : List Arg) (s : Var) → WorldIsNamed n w → fact_in w p (arg_values e xs) ≡
+    true → list_any (is_that_variable s) xs ≡ true → Has n e s
 fact-named n w p e xs s h t k = (elim (arg_values e xs) as (λ o. arg_values e xs ≡ o → fact_in w p o ≡ true → Has n e s) [
   | None ↦ λ q m. absurd (true≢false (sym m))
   | Some vs ↦ λ q m. args-named n e xs vs s q (h.facts (p, vs) m) k
 ]) refl t
 
-same-named : (n : ℕ) (w : World) (f : ℕ) (e : Assignment) (xs : List Arg) (x : Arg) (vs : List Value) (s : Var) → WorldIsNamed n w → arg_values e xs ≡ Some vs → same_value (value_at w (f, vs)) (arg_value e x) ≡ true → list_any (is_that_variable s) (x ∷ xs) ≡ true → Has n e s
-same-named n w f e xs x vs s h q t k = (elim (value_at w (f, vs)) as (λ o. value_at w (f, vs) ≡ o → same_value o (arg_value e x) ≡ true → Has n e s) [
-  | None ↦ λ a m. absurd (true≢false (sym m))
-  | Some u ↦ λ a m. (elim (arg_value e x) as (λ r. arg_value e x ≡ r → same_value (Some u) r ≡ true → Has n e s) [
-    | None ↦ λ b l. absurd (true≢false (sym l))
-    | Some v ↦ λ b l.
-        let named = h.places (f, vs) u a in
-        args-named n e (x ∷ xs) (v ∷ vs) s (λ i. prepend (b i) (q i)) (subst (ValueIsNamed n) (value-is u v l) named.1, named.0) k
-  ]) refl m
-]) refl t
+same-named : (n : ℕ) (w : World) (f : ℕ) (e : Assignment) (xs : List Arg) (x : Arg) (vs : List Value) (s : Var) → WorldIsNamed n w →
+    arg_values e xs ≡ Some vs → same_value (value_at w (f, vs)) (arg_value e x) ≡ true → list_any (is_that_variable s) (x ∷ xs) ≡ true →
+    Has n e s
+same-named n w f e xs x vs s h q t k = (elim (value_at w (f, vs)) as (λ o. value_at w (f, vs) ≡ o → same_value o (arg_value e x) ≡ true →
+    Has n e s) [
+      | None ↦ λ a m. absurd (true≢false (sym m))
+      | Some u ↦ λ a m. (elim (arg_value e x) as (λ r. arg_value e x ≡ r → same_value (Some u) r ≡ true → Has n e s) [
+        | None ↦ λ b l. absurd (true≢false (sym l))
+        | Some v ↦ λ b l.
+            let named = h.places (f, vs) u a in
+            args-named n e (x ∷ xs) (v ∷ vs) s (λ i. prepend (b i) (q i)) (subst (ValueIsNamed n) (value-is u v l) named.1, named.0) k
+      ]) refl m
+    ]) refl t
 
-place-named : (n : ℕ) (w : World) (f : ℕ) (e : Assignment) (xs : List Arg) (x : Arg) (s : Var) → WorldIsNamed n w → same_value (place_value w f (arg_values e xs)) (arg_value e x) ≡ true → list_any (is_that_variable s) (x ∷ xs) ≡ true → Has n e s
-place-named n w f e xs x s h t k = (elim (arg_values e xs) as (λ o. arg_values e xs ≡ o → same_value (place_value w f o) (arg_value e x) ≡ true → Has n e s) [
-  | None ↦ λ q m. absurd (true≢false (sym m))
-  | Some vs ↦ λ q m. same-named n w f e xs x vs s h q m k
-]) refl t
+place-named : (n : ℕ) (w : World) (f : ℕ) (e : Assignment) (xs : List Arg) (x : Arg) (s : Var) → WorldIsNamed n w →
+    same_value (place_value w f (arg_values e xs)) (arg_value e x) ≡ true → list_any (is_that_variable s) (x ∷ xs) ≡ true → Has n e s
+place-named n w f e xs x s h t k = (elim (arg_values e xs) as (λ o. arg_values e xs ≡ o → same_value (place_value w f o) (arg_value e x) ≡
+    true → Has n e s) [
+      | None ↦ λ q m. absurd (true≢false (sym m))
+      | Some vs ↦ λ q m. same-named n w f e xs x vs s h q m k
+    ]) refl t
 
-pub bound-named : (n : ℕ) (c : Situation) (e : Assignment) (b : Bound) (s : Var) → WorldIsNamed n c.world → WorldIsNamed n c.goal → WorldIsNamed n c.avoid → bound_true c e b ≡ true → stands_in s b ≡ true → Has n e s
+pub bound-named : (n : ℕ) (c : Situation) (e : Assignment) (b : Bound) (s : Var) → WorldIsNamed n c.world → WorldIsNamed n c.goal →
+    WorldIsNamed n c.avoid → bound_true c e b ≡ true → stands_in s b ≡ true → Has n e s
 unfolding bound_true
 bound-named n c e (bound.Fact p xs) s w g a t k = fact-named n c.world p e xs s w t k
 bound-named n c e (bound.Place f xs x) s w g a t k = place-named n c.world f e xs x s w t k
@@ -86,7 +95,8 @@ bound-named n c e (bound.GoalNot p xs) s w g a t k = fact-named n c.avoid p e xs
 
 -- ---- the values of a row
 
-row-named : (n : ℕ) (w : World) (e : Assignment) (ss : List Var) (t : List Value) → term_values w e (variables ss) ≡ Some t → Each (Has n e) ss → Each (ValueIsNamed n) t
+row-named : (n : ℕ) (w : World) (e : Assignment) (ss : List Var) (t : List Value) → term_values w e (variables ss) ≡ Some t →
+    Each (Has n e) ss → Each (ValueIsNamed n) t
 unfolding term_values
 row-named n w e [] t q h = let k : [] ≡ t = cc in subst (Each (ValueIsNamed n)) k tt
 row-named n w e (s ∷ ss) t q h =
@@ -103,20 +113,28 @@ module _ (problem : Problem) (w : World) (named : WorldIsNamed (length problem.n
   abbrev count : ℕ
   count = length problem.names
 
-  holds-named : (e : Assignment) (b : Bound) (s : Var) → bound_true (situation_of (plain_problem problem) w) e b ≡ true → stands_in s b ≡ true → Has count e s
+  holds-named : (e : Assignment) (b : Bound) (s : Var) → bound_true (situation_of (plain_problem problem) w) e b ≡ true → stands_in s b ≡
+      true → Has count e s
   unfolding situation_of
-  holds-named e b s t k = bound-named count (situation_of (plain_problem problem) w) e b s named (goal-named problem) (avoid-named problem) t k
+  holds-named e b s t k = bound-named count (situation_of (plain_problem problem) w) e b s named (goal-named problem)
+      (avoid-named problem) t k
 
-  found-named : (o : Operator) (d : Assignment) (t : List Value) → OperatorKeeps (signature_of problem.domain) count o → IsFound (plain_problem problem) w (plain_operator o) [] o.bounds d t → Each (ValueIsNamed count) t
+  found-named : (o : Operator) (d : Assignment) (t : List Value) → OperatorKeeps (signature_of problem.domain) count o →
+      IsFound (plain_problem problem) w (plain_operator o) [] o.bounds d t → Each (ValueIsNamed count) t
   found-named o d t keeps h =
       let e = row_assignment (plain_operator o) t in
-      row-named count w e o.params t (values-of-row w e no_values o.params t (counted-differ o.params keeps.params.counted) h.completes.arity (itself e o.params))
+      row-named count w e o.params t (values-of-row w e no_values o.params t
+      (counted-differ o.params keeps.params.counted) h.completes.arity (itself e o.params))
       ((Each-Among (Has count e) o.params).1 (λ s m.
       let some = (Each-Among (λ (x : Var). IsTrue (list_any (stands_in x) o.bounds)) o.params).0 keeps.bounded s m in
-      let b = one_out (λ x. stands_in s x ≡ true) o.bounds (One-certain (λ x. stands_in s x ≡ true) (stands_in s) (λ x q. q) o.bounds some) in
-      holds-named e b.0 s ((Each-Among (λ x. bound_true (situation_of (plain_problem problem) w) e x ≡ true) o.bounds).0 h.completes.bounds b.0 b.1.0) b.1.1))
+      let b = one_out (λ x. stands_in s x ≡ true) o.bounds (One-certain (λ x. stands_in s x ≡ true) (stands_in s) (λ x q. q) o.bounds some)
+      in
+      holds-named e b.0 s ((Each-Among (λ x. bound_true (situation_of (plain_problem problem) w) e x ≡ true) o.bounds).0 h.completes.bounds
+      b.0 b.1.0) b.1.1))
 
-  operator-of : (os : List Operator) (i : ℕ) (x : PlainOperator) → Each (OperatorKeeps (signature_of problem.domain) count) os → slice_get (map plain_operator os) i ≡ Some x → (o : Operator) × OperatorKeeps (signature_of problem.domain) count o × (plain_operator o ≡ x)
+  operator-of : (os : List Operator) (i : ℕ) (x : PlainOperator) → Each (OperatorKeeps (signature_of problem.domain) count) os →
+      slice_get (map plain_operator os) i ≡ Some x → (o : Operator) × OperatorKeeps (signature_of problem.domain) count o ×
+      (plain_operator o ≡ x)
   operator-of [] i x k q = absurd (let z : ⊥ = cc in z)
   operator-of (o ∷ os) zero x k q = (o, k.0, (let e : plain_operator o ≡ x = cc in e))
   operator-of (o ∷ os) (suc i) x k q = operator-of os i x k.1 q
@@ -126,7 +144,8 @@ module _ (problem : Problem) (w : World) (named : WorldIsNamed (length problem.n
   action-named a h =
       let there = step-operator (plain_problem problem) w a h in
       let o = operator-of problem.domain.operators a.op there.0 problem.domain_keeps.operators there.1 in
-      let found = step-found (plain_problem problem) w (plain_operator o.0) a.op (there.1 ∙ ap (λ (x : PlainOperator). Some x) (sym o.2)) no_values a.args h in
+      let found = step-found (plain_problem problem) w (plain_operator o.0) a.op
+      (there.1 ∙ ap (λ (x : PlainOperator). Some x) (sym o.2)) no_values a.args h in
       found-named o.0 no_values a.args o.1 found
 
   pub actions-named : (k : ℕ) (found : List Action) → ActionsSoFar (plain_problem problem) w k found → Each (ArgumentsAreNamed count) found

@@ -20,7 +20,8 @@ use Rattle.tl_terms.specs.World.{World}
 use Rattle.tl_terms.proofs.NamedSteps.{step-named}
 use Rattle.tl_terms.proofs.NamedWorlds.{goal-named, avoid-named}
 
-kept : (g : Signature) (n : ℕ) (os : List Operator) → Each (OperatorKeeps g n) os → Each (λ (o : Operator). EffectsAreNamed n (tree_of_effects o.effects)) os
+kept : (g : Signature) (n : ℕ) (os : List Operator) → Each (OperatorKeeps g n) os →
+    Each (λ (o : Operator). EffectsAreNamed n (tree_of_effects o.effects)) os
 kept g n [] h = tt
 kept g n (o ∷ os) h = (h.0.effects_named, kept g n os h.1)
 
@@ -30,10 +31,13 @@ effects-named p =
     (Each-over (λ (o : PlainOperator). EffectsAreNamed (length p.names) o.effects) plain_operator p.domain.operators).1
     (kept (signature_of p.domain) (length p.names) p.domain.operators p.domain_keeps.operators)
 
-pub next-named : (p : Problem) (w : World) (a : Action) (next : World) → Some next ≡ step (plain_problem p) w a → StaysNamed (length p.names) w a next
-next-named p w a next h = λ world args. step-named (length p.names) (plain_problem p) (goal-named p) (avoid-named p) w world a next (effects-named p) args (sym h)
+pub next-named : (p : Problem) (w : World) (a : Action) (next : World) → Some next ≡ step (plain_problem p) w a →
+    StaysNamed (length p.names) w a next
+next-named p w a next h = λ world args. step-named (length p.names) (plain_problem p) (goal-named p) (avoid-named p) w world a next
+    (effects-named p) args (sym h)
 
-pub answer-named : (p : Problem) (w : World) (a : Action) (r : Result (Option Changes) EvalFault) → IfOk r (AreChangesOf (plain_problem p) w a) → IfOk r (λ o. IfSome o (LeaveNamed (length p.names) w a))
+pub answer-named : (p : Problem) (w : World) (a : Action) (r : Result (Option Changes) EvalFault) →
+    IfOk r (AreChangesOf (plain_problem p) w a) → IfOk r (λ o. IfSome o (LeaveNamed (length p.names) w a))
 answer-named p w a (Ok (Some c)) h = next-named p w a (world_after w c) h
 answer-named p w a (Ok None) h = tt
 answer-named p w a (Err x) h = tt

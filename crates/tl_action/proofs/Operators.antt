@@ -1,5 +1,6 @@
 -- What an operator reads of a frame: the values of its parameters alone.
-use Rattle.std.proofs.Common.{◌≡◌, ◌<◌, ◌≤◌, ◌+◌, ℕ, zero, suc, List, [], ◌∷◌, flat_map, length, slice_get, Bool, true, false, ◌==◌, ◌&&◌, ◌||◌, IsTrue, Some, refl, sym, ap, ap₂, ◌∙◌, arith, inl, inr}
+use Rattle.std.proofs.Common.{◌≡◌, ◌<◌, ◌≤◌, ◌+◌, ℕ, zero, suc, List, [], ◌∷◌, flat_map, length, slice_get, Bool, true, false, ◌==◌, ◌&&◌}
+use Rattle.std.proofs.Common.{◌||◌, IsTrue, Some, refl, sym, ap, ap₂, ◌∙◌, arith, inl, inr}
 use Rattle.std.proofs.lemmas.Bool.{eq-eqb}
 use Rattle.std.proofs.lemmas.List.{length-map}
 use Rattle.std.specs.List.{list_all}
@@ -51,7 +52,8 @@ scope-itself xs = (Each-Among (λ q. IsTrue (is_slot_in xs q)) xs).1 (among-slot
 
 -- variables that are given values have them whatever the frame was
 pub bound-alike : (ss : List Var) (t : List Value) (d e : Assignment) → Agree (slots_of ss) (bind ss t d) (bind ss t e)
-bound-alike ss t d e = (Each-Among (λ q. bind ss t d q ≡ bind ss t e q) (slots_of ss)).1 (λ q m. bind-kept ss t d e q (λ z. absurd (let x : true ≡ false = sym (among-slot (slots_of ss) q m) ∙ z in cc)))
+bound-alike ss t d e = (Each-Among (λ q. bind ss t d q ≡ bind ss t e q) (slots_of ss)).1
+    (λ q m. bind-kept ss t d e q (λ z. absurd (let x : true ≡ false = sym (among-slot (slots_of ss) q m) ∙ z in cc)))
 
 -- counted slots are those of a frame
 below-all : (xs : List ℕ) (limit : ℕ) → ((i n : ℕ) → slice_get xs i ≡ Some n → n < limit) → Each (λ n. n < limit) xs
@@ -66,7 +68,8 @@ got-below (x ∷ xs) (suc i) n q = let k = got-below xs i n q in omega arith
 pub counted-slots : (ss : List Var) → AreTheirPlaces (slots_of ss) → length ss ≤ 16 → Each (λ s. s.slot < 32) ss
 counted-slots ss h k =
     (Each-over (λ (n : ℕ). n < 32) (λ (s : Var). s.slot) ss).0
-    (below-all (slots_of ss) 32 (λ i n q. let e = h i n q in let l = got-below (slots_of ss) i n q in let m = length-map ss (λ (s : Var). s.slot) in omega arith))
+    (below-all (slots_of ss) 32 (λ i n q. let e = h i n q in let l = got-below (slots_of ss) i n q in let m =
+    length-map ss (λ (s : Var). s.slot) in omega arith))
 
 each-slot : (P : ℕ → Type 0) (ss : List Var) → ((k n : ℕ) → slice_get (slots_of ss) k ≡ Some n → P n) → Each (λ s. P s.slot) ss
 each-slot P [] h = tt
@@ -75,7 +78,8 @@ each-slot P (s ∷ ss) h = (h 0 s.slot refl, each-slot P ss (λ k n q. h (suc k)
 differ-from : (ss : List Var) (m : ℕ) → ((k n : ℕ) → slice_get (slots_of ss) k ≡ Some n → n ≡ m + k) → DifferInSlot ss
 differ-from [] m h = tt
 differ-from (s ∷ ss) m h = (
-  each-slot (λ n. n ≡ s.slot → ⊥) ss (λ k n q e. let a : n ≡ m + suc k = h (suc k) n q in let b : s.slot ≡ m + 0 = h 0 s.slot refl in absurd (omega arith)),
+  each-slot (λ n. n ≡ s.slot → ⊥) ss (λ k n q e. let a : n ≡ m + suc k = h (suc k) n q in let b : s.slot ≡ m + 0 = h 0 s.slot refl in
+      absurd (omega arith)),
   differ-from ss (suc m) (λ k n q. let a : n ≡ m + suc k = h (suc k) n q in omega arith),
 )
 
@@ -91,9 +95,11 @@ operator-effects g n o h = record { around = slots_of o.params; fits = h.effects
 pub operator-condition : (g : Signature) (n : ℕ) (o : Operator) → OperatorKeeps g n o → Fits g [] (tree_of_formula o.pre)
 operator-condition g n o h = fits-alone g (slots_of o.params) (tree_of_formula o.pre) h.fits
 
-bounds-agree : (s : Situation) (scope : List ℕ) (bs : List Bound) (d e : Assignment) → Each (λ b. InScope scope (bound_slots b)) bs → Agree scope d e → list_all (bound_true s d) bs ≡ list_all (bound_true s e) bs
+bounds-agree : (s : Situation) (scope : List ℕ) (bs : List Bound) (d e : Assignment) → Each (λ b. InScope scope (bound_slots b)) bs →
+    Agree scope d e → list_all (bound_true s d) bs ≡ list_all (bound_true s e) bs
 bounds-agree s scope [] d e h k = refl
-bounds-agree s scope (b ∷ bs) d e h k = ap₂ ◌&&◌ (bound-agrees s b d e (agree-within scope (bound_slots b) d e h.0 k)) (bounds-agree s scope bs d e h.1 k)
+bounds-agree s scope (b ∷ bs) d e h k = ap₂ ◌&&◌ (bound-agrees s b d e (agree-within scope (bound_slots b) d e h.0 k))
+    (bounds-agree s scope bs d e h.1 k)
 
 -- the two frames mean the same for the operator
 pub record OperatorAgrees (p : PlainProblem) (w : World) (o : Operator) (d e : Assignment) : Type 0 where
@@ -102,11 +108,14 @@ pub record OperatorAgrees (p : PlainProblem) (w : World) (o : Operator) (d e : A
   pub prepared : is_prepared p w d (plain_operator o) ≡ is_prepared p w e (plain_operator o)
   pub looked : looked_prepared p w d (plain_operator o) ≡ looked_prepared p w e (plain_operator o)
 
-pub operator-agrees : (g : Signature) (n : ℕ) (p : PlainProblem) (w : World) (o : Operator) (d e : Assignment) → OperatorKeeps g n o → Agree (slots_of o.params) d e → OperatorAgrees p w o d e
+pub operator-agrees : (g : Signature) (n : ℕ) (p : PlainProblem) (w : World) (o : Operator) (d e : Assignment) → OperatorKeeps g n o →
+    Agree (slots_of o.params) d e → OperatorAgrees p w o d e
 operator-agrees g n p w o d e h k =
     let s = situation_of p w in
-    let pre = state-agrees (looks_of p w) s d e (tree_of_formula o.pre) (agree-within (slots_of o.params) (free_slots (tree_of_formula o.pre)) d e h.scope k) in
-    let effects = effects-agree (looks_of p w) s d e (tree_of_effects o.effects) (agree-within (slots_of o.params) (effects_slots (tree_of_effects o.effects)) d e h.effects_scope k) in
+    let pre = state-agrees (looks_of p w) s d e (tree_of_formula o.pre)
+    (agree-within (slots_of o.params) (free_slots (tree_of_formula o.pre)) d e h.scope k) in
+    let effects = effects-agree (looks_of p w) s d e (tree_of_effects o.effects)
+    (agree-within (slots_of o.params) (effects_slots (tree_of_effects o.effects)) d e h.effects_scope k) in
     record {
       bounds = bounds-agree s (slots_of o.params) o.bounds d e h.bounds_scope k;
       instances = effects.instances;

@@ -1,5 +1,6 @@
 -- What is worked out of operators whose bounds are joined in their own order.
-use Rattle.std.proofs.Common.{◌≡◌, ◌<◌, ◌≤◌, ◌+◌, ℕ, zero, suc, List, [], ◌∷◌, ◌++◌, map, take, length, get_or, Bool, refl, sym, ap, ◌∙◌, arith}
+use Rattle.std.proofs.Common.{◌≡◌, ◌<◌, ◌≤◌, ◌+◌, ℕ, zero, suc, List, [], ◌∷◌, ◌++◌, map, take, length, get_or, Bool, refl, sym, ap, ◌∙◌}
+use Rattle.std.proofs.Common.{arith}
 use Rattle.std.specs.Prelude.{slice_set}
 use Rattle.std.proofs.lemmas.List.{map-append}
 use Rattle.tl_action.specs.declared.arranged.Arranged.{Arranged}
@@ -25,14 +26,16 @@ own-parameters a o p q =
     ∙ ap (λ (x : Operator). new_from x.params [] x.bounds) p)
 
 -- such a join order has what is worked out of its operator
-pub own-is : (a : Arranged) (o : Operator) (ps : List (List Var)) (s : Bool) → a.operator.now ≡ o → a.first ≡ 0 → ps ≡ new_parameters_in a → s ≡ are_sure (tree_of_effects a.operator.now.effects) → (ps, s) ≡ own_order o
+pub own-is : (a : Arranged) (o : Operator) (ps : List (List Var)) (s : Bool) → a.operator.now ≡ o → a.first ≡ 0 → ps ≡ new_parameters_in a →
+    s ≡ are_sure (tree_of_effects a.operator.now.effects) → (ps, s) ≡ own_order o
 own-is a o ps s p q n e =
     let parameters = n ∙ own-parameters a o p q in
     let sure = e ∙ ap (λ (x : Operator). are_sure (tree_of_effects x.effects)) p in
     λ i. (parameters i, sure i)
 
 -- one operator more
-pub orders-on : (os : List Operator) (i : ℕ) (o : Operator) (before after : List (List (List Var) × Bool)) (own : List (List Var) × Bool) → i < length os → o ≡ get_or os i o → own ≡ own_order o → after ≡ before ++ own ∷ []
+pub orders-on : (os : List Operator) (i : ℕ) (o : Operator) (before after : List (List (List Var) × Bool)) (own : List (List Var) × Bool) →
+    i < length os → o ≡ get_or os i o → own ≡ own_order o → after ≡ before ++ own ∷ []
     → before ≡ map own_order (take i os) → after ≡ map own_order (take (i + 1) os)
 orders-on os i o before after own h k e q so =
     q ∙ (ap (λ xs. xs ++ own ∷ []) so
@@ -40,7 +43,8 @@ orders-on os i o before after own h k e q so =
     ∙ sym (ap (map own_order) (take-opened os i o h k) ∙ map-append own_order (take i os) (o ∷ []))))
 
 -- all operators
-pub orders-ended : (os : List Operator) (i : ℕ) (orders : List (List (List Var) × Bool)) → length os ≤ i → orders ≡ map own_order (take i os) → orders ≡ map own_order os
+pub orders-ended : (os : List Operator) (i : ℕ) (orders : List (List (List Var) × Bool)) → length os ≤ i → orders ≡
+    map own_order (take i os) → orders ≡ map own_order os
 orders-ended os i orders h so = so ∙ ap (map own_order) (take-past os i h)
 
 -- how many there are
@@ -49,13 +53,15 @@ orders-count [] = refl
 orders-count (o ∷ os) = ap suc (orders-count os)
 
 -- that of an operator
-pub order-at : (os : List Operator) (i : ℕ) (o : Operator) (own : List (List Var) × Bool) → i < length os → o ≡ get_or os i o → own ≡ get_or (map own_order os) i own → own ≡ own_order o
+pub order-at : (os : List Operator) (i : ℕ) (o : Operator) (own : List (List Var) × Bool) → i < length os → o ≡ get_or os i o → own ≡
+    get_or (map own_order os) i own → own ≡ own_order o
 order-at [] i o own h k q = absurd (omega arith)
 order-at (x ∷ os) zero o own h k q = q ∙ ap own_order (sym k)
 order-at (x ∷ os) (suc i) o own h k q = order-at os i o own (omega arith) k q
 
 -- what stands at a place is put there again
-pub put-again : (os : List Operator) (i : ℕ) (o : Operator) (own : List (List Var) × Bool) → i < length os → o ≡ get_or os i o → own ≡ own_order o → slice_set (map own_order os) i own ≡ map own_order os
+pub put-again : (os : List Operator) (i : ℕ) (o : Operator) (own : List (List Var) × Bool) → i < length os → o ≡ get_or os i o → own ≡
+    own_order o → slice_set (map own_order os) i own ≡ map own_order os
 put-again [] i o own h k q = refl
 put-again (x ∷ os) zero o own h k q = ap (λ y. y ∷ map own_order os) (q ∙ ap own_order k)
 put-again (x ∷ os) (suc i) o own h k q = ap (λ ys. own_order x ∷ ys) (put-again os i o own (omega arith) k q)

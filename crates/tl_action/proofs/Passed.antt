@@ -1,5 +1,6 @@
 -- Changes that are collected in turn.
-use Rattle.std.proofs.Common.{◌≡◌, List, [], ◌∷◌, ◌++◌, map, flat_map, append_assoc, append-nil, Bool, true, false, ◌&&◌, refl, sym, ap, ap₂, ◌∙◌, subst}
+use Rattle.std.proofs.Common.{◌≡◌, List, [], ◌∷◌, ◌++◌, map, flat_map, append_assoc, append-nil, Bool, true, false, ◌&&◌, refl, sym, ap}
+use Rattle.std.proofs.Common.{ap₂, ◌∙◌, subst}
 use Rattle.std.specs.List.{list_all}
 use Rattle.tl_action.specs.declared.changes.Changes.{Changes}
 use Rattle.tl_eval.specs.declared.fault.EvalFault.{EvalFault}
@@ -19,7 +20,8 @@ flat-two f (x ∷ xs) ys = ap (λ zs. f x ++ zs) (flat-two f xs ys) ∙ sym (app
 
 pub all-two : {A : Type 0} (p : A → Bool) (xs ys : List A) → list_all p (xs ++ ys) ≡ (list_all p xs && list_all p ys)
 all-two p [] ys = refl
-all-two p (x ∷ xs) ys = (elim (p x) as (λ b. (b && list_all p (xs ++ ys)) ≡ ((b && list_all p xs) && list_all p ys)) [ true ↦ all-two p xs ys | false ↦ refl ])
+all-two p (x ∷ xs) ys = (elim (p x) as (λ b. (b && list_all p (xs ++ ys)) ≡
+    ((b && list_all p xs) && list_all p ys)) [ true ↦ all-two p xs ys | false ↦ refl ])
 
 -- a cause is one of more operations too
 pub caused-more : (ls ms : List Operation) (x : EvalFault) → ((o : Operation) → Among o ls → Among o ms) → IsCausedBy ls x → IsCausedBy ms x
@@ -34,8 +36,10 @@ nothing-more x = record {
   sets = sym (append-nil (map place_entry x.sets));
 }
 
-regrouped : {A : Type 0} (x y z : List A) (f : EffectInstance → List A) (cs ds : List EffectInstance) → y ≡ x ++ flat_map f cs → z ≡ y ++ flat_map f ds → z ≡ x ++ flat_map f (cs ++ ds)
-regrouped x y z f cs ds q r = r ∙ (ap (λ u. u ++ flat_map f ds) q ∙ (append_assoc x (flat_map f cs) (flat_map f ds) ∙ ap (λ u. x ++ u) (sym (flat-two f cs ds))))
+regrouped : {A : Type 0} (x y z : List A) (f : EffectInstance → List A) (cs ds : List EffectInstance) → y ≡ x ++ flat_map f cs → z ≡ y ++
+    flat_map f ds → z ≡ x ++ flat_map f (cs ++ ds)
+regrouped x y z f cs ds q r = r ∙ (ap (λ u. u ++ flat_map f ds) q ∙ (append_assoc x (flat_map f cs) (flat_map f ds) ∙
+    ap (λ u. x ++ u) (sym (flat-two f cs ds))))
 
 pub more-both : (cs ds : List EffectInstance) (x y z : Changes) → HasMore cs x y → HasMore ds y z → HasMore (cs ++ ds) x z
 more-both cs ds x y z h k = record {
@@ -46,16 +50,25 @@ more-both cs ds x y z h k = record {
 }
 
 -- the changes so far are those of all instances but the rest, and what the rest looks at is looked at
-pub record Passed (all : List EffectInstance) (looked : List Operation) (rest : List EffectInstance) (looked_rest : List Operation) (before now : Changes) : Type 0 where
+pub record Passed (all : List EffectInstance) (looked : List Operation) (rest : List EffectInstance) (looked_rest : List Operation)
+    (before now : Changes) : Type 0 where
   pub done : List EffectInstance
   pub instances : all ≡ done ++ rest
   pub more : HasMore done before now
   pub operations : (o : Operation) → Among o looked_rest → Among o looked
 
-pub passed-begun : (all rest : List EffectInstance) (looked looked_rest : List Operation) (x : Changes) → all ≡ rest → looked ≡ looked_rest → Passed all looked rest looked_rest x x
-passed-begun all rest looked looked_rest x q r = record { done = []; instances = q; more = nothing-more x; operations = λ o. subst (λ ls. Among o ls) (sym r) }
+pub passed-begun : (all rest : List EffectInstance) (looked looked_rest : List Operation) (x : Changes) → all ≡ rest → looked ≡
+    looked_rest → Passed all looked rest looked_rest x x
+passed-begun all rest looked looked_rest x q r = record {
+  done = [];
+  instances = q;
+  more = nothing-more x;
+  operations = λ o.
+      subst (λ ls. Among o ls) (sym r);
+}
 
-module _ (all rest xs others : List EffectInstance) (looked looked_rest ls looked_others : List Operation) (before now : Changes) (q : rest ≡ xs ++ others) (r : looked_rest ≡ ls ++ looked_others) (h : Passed all looked rest looked_rest before now) where
+module _ (all rest xs others : List EffectInstance) (looked looked_rest ls looked_others : List Operation) (before now : Changes)
+    (q : rest ≡ xs ++ others) (r : looked_rest ≡ ls ++ looked_others) (h : Passed all looked rest looked_rest before now) where
   pub passed-on : (then : Changes) → HasMore xs now then → Passed all looked others looked_others before then
   passed-on then k = record {
     done = h.done ++ xs;
@@ -66,10 +79,14 @@ module _ (all rest xs others : List EffectInstance) (looked looked_rest ls looke
 
   pub passed-undefined : list_all is_defined xs ≡ false → list_all is_defined all ≡ false
   passed-undefined k =
-      ap (list_all is_defined) (h.instances ∙ ap (λ u. h.done ++ u) q) ∙ (all-two is_defined h.done (xs ++ others) ∙ (ap (λ (b : Bool). b && list_all is_defined (xs ++ others)) h.more.defined ∙ (all-two is_defined xs others ∙ ap (λ (b : Bool). b && list_all is_defined others) k)))
+      ap (list_all is_defined) (h.instances ∙ ap (λ u. h.done ++ u) q) ∙
+      (all-two is_defined h.done (xs ++ others) ∙ (ap (λ (b : Bool). b && list_all is_defined (xs ++ others)) h.more.defined ∙
+      (all-two is_defined xs others ∙ ap (λ (b : Bool). b && list_all is_defined others) k)))
 
   pub passed-fault : (x : EvalFault) → IsCausedBy ls x → IsCausedBy looked x
   passed-fault x k = caused-more ls looked x (λ o m. h.operations o (subst (λ u. Among o u) (sym r) (among-left o ls looked_others m))) k
 
-pub passed-end : (all rest : List EffectInstance) (looked looked_rest : List Operation) (before now : Changes) → rest ≡ [] → Passed all looked rest looked_rest before now → HasMore all before now
-passed-end all rest looked looked_rest before now q h = subst (λ cs. HasMore cs before now) (sym (h.instances ∙ (ap (λ u. h.done ++ u) q ∙ append-nil h.done))) h.more
+pub passed-end : (all rest : List EffectInstance) (looked looked_rest : List Operation) (before now : Changes) → rest ≡ [] →
+    Passed all looked rest looked_rest before now → HasMore all before now
+passed-end all rest looked looked_rest before now q h = subst (λ cs. HasMore cs before now)
+    (sym (h.instances ∙ (ap (λ u. h.done ++ u) q ∙ append-nil h.done))) h.more

@@ -1,5 +1,6 @@
 -- Places that are set agree exactly where the world of them gives each its value, and where no two of them clash.
-use Rattle.std.proofs.Common.{◌≡◌, ◌↔◌, List, [], ◌∷◌, map, Bool, true, false, true≢false, not, ◌&&◌, ◌||◌, ◌<◌, length, arith, cond, Option, Some, None, inl, inr, refl, sym, ap, ◌∙◌}
+use Rattle.std.proofs.Common.{◌≡◌, ◌↔◌, List, [], ◌∷◌, map, Bool, true, false, true≢false, not, ◌&&◌, ◌||◌, ◌<◌, length, arith, cond}
+use Rattle.std.proofs.Common.{Option, Some, None, inl, inr, refl, sym, ap, ◌∙◌}
 use Rattle.std.specs.List.{list_all}
 use Rattle.std.specs.FinMap as dict
 use Rattle.std.specs.Ordering.{eq_by_cmp, is_eq}
@@ -16,11 +17,13 @@ use Rattle.tl_terms.proofs.KeyLaws.{key-is, key-itself, value-is, value-itself}
 use Rattle.tl_terms.proofs.StepLaws.{no_clash-iff}
 
 -- the map of the list gives a place of it its value
-get-given : (ps : List (Key × Value)) (k : Key) (a : Value) → ((b : Value) → Among (k, b) ps → b ≡ a) → Among (k, a) ps → dict.get (dict.from_entries {R = key_cmp} ps) k ≡ Some a
+get-given : (ps : List (Key × Value)) (k : Key) (a : Value) → ((b : Value) → Among (k, b) ps → b ≡ a) → Among (k, a) ps →
+    dict.get (dict.from_entries {R = key_cmp} ps) k ≡ Some a
 get-given [] k a one m = absurd m
 get-given (x ∷ ps) k a one m =
     dict.get-insert key_total (dict.from_entries ps) x.0 x.1 k
-    ∙ (elim (eq_by_cmp key_cmp k x.0) as (λ b. eq_by_cmp key_cmp k x.0 ≡ b → cond b (Some x.1) (dict.get (dict.from_entries {R = key_cmp} ps) k) ≡ Some a) [
+    ∙ (elim (eq_by_cmp key_cmp k x.0) as (λ b. eq_by_cmp key_cmp k x.0 ≡ b →
+    cond b (Some x.1) (dict.get (dict.from_entries {R = key_cmp} ps) k) ≡ Some a) [
       | true ↦ λ q. let e : x.0 ≡ k = key-is k x.0 q in ap (λ (v : Value). Some v) (one x.1 (inl (λ i. (e i, x.1))))
       | false ↦ λ q. elim m [
         | inl e ↦ absurd (true≢false (sym (key-itself k x.0 (ap (λ (y : Key × Value). y.0) e)) ∙ q))
@@ -38,19 +41,24 @@ some-same a b o p q = let e : Some a ≡ Some b = sym p ∙ q in cc
 all-given : (ps : List (Key × Value)) → list_all (λ x. is_value (dict.get (dict.from_entries {R = key_cmp} ps) x.0) x.1) ps ≡ no_clash ps
 all-given ps =
     let m = dict.from_entries {R = key_cmp} ps in
-    let given = all-iff (λ (x : Key × Value). dict.get m x.0 ≡ Some x.1) (λ x. is_value (dict.get m x.0) x.1) (λ x. is_value-iff (dict.get m x.0) x.1) ps in
+    let given = all-iff (λ (x : Key × Value). dict.get m x.0 ≡ Some x.1) (λ x. is_value (dict.get m x.0) x.1)
+    (λ x. is_value-iff (dict.get m x.0) x.1) ps in
     same_test (list_all (λ x. is_value (dict.get m x.0) x.1) ps) (no_clash ps)
-    (λ h. (no_clash-iff ps).0 (λ k a b n l. let each = (Each-Among (λ (x : Key × Value). dict.get m x.0 ≡ Some x.1) ps).0 (given.1 h) in some-same a b (dict.get m k) (each (k, a) n) (each (k, b) l)))
-    (λ h. given.0 ((Each-Among (λ (x : Key × Value). dict.get m x.0 ≡ Some x.1) ps).1 (λ x n. get-given ps x.0 x.1 (λ b l. (no_clash-iff ps).1 h x.0 b x.1 l n) n)))
+    (λ h. (no_clash-iff ps).0 (λ k a b n l. let each = (Each-Among (λ (x : Key × Value). dict.get m x.0 ≡ Some x.1) ps).0 (given.1 h) in
+    some-same a b (dict.get m k) (each (k, a) n) (each (k, b) l)))
+    (λ h. given.0 ((Each-Among (λ (x : Key × Value). dict.get m x.0 ≡ Some x.1) ps).1
+    (λ x n. get-given ps x.0 x.1 (λ b l. (no_clash-iff ps).1 h x.0 b x.1 l n) n)))
 
 list_all-map : {A B : Type 0} (f : A → B) (p : B → Bool) (xs : List A) → list_all (λ x. p (f x)) xs ≡ list_all p (map f xs)
 list_all-map f p [] = refl
 list_all-map f p (x ∷ xs) = ap (λ (b : Bool). p (f x) && b) (list_all-map f p xs)
 
-pub places-agree : (sets : List PlaceValue) → list_all (λ s. is_value (value_at (world_of [] sets) (s.fun, s.args)) s.value) sets ≡ no_clash (map place_entry sets)
+pub places-agree : (sets : List PlaceValue) → list_all (λ s. is_value (value_at (world_of [] sets) (s.fun, s.args)) s.value) sets ≡
+    no_clash (map place_entry sets)
 unfolding world_of
 places-agree sets =
-    list_all-map place_entry (λ (x : Key × Value). is_value (dict.get (dict.from_entries {R = key_cmp} (map place_entry sets)) x.0) x.1) sets ∙ all-given (map place_entry sets)
+    list_all-map place_entry (λ (x : Key × Value). is_value (dict.get (dict.from_entries {R = key_cmp} (map place_entry sets)) x.0) x.1)
+    sets ∙ all-given (map place_entry sets)
 
 -- ---- a few places
 
@@ -68,6 +76,8 @@ few-agree (x ∷ []) h = sym (ap (λ (b : Bool). (b && true) && true) (agree-its
 few-agree (x ∷ y ∷ sets) h = absurd (omega arith)
 
 -- each compared with each
-pub each-agrees : (sets : List PlaceValue) → list_all (λ a. list_all (λ b. agree (place_entry a) (place_entry b)) sets) sets ≡ no_clash (map place_entry sets)
+pub each-agrees : (sets : List PlaceValue) → list_all (λ a. list_all (λ b. agree (place_entry a) (place_entry b)) sets) sets ≡
+    no_clash (map place_entry sets)
 each-agrees sets =
-    (λ i. list_all (λ a. list_all-map place_entry (agree (place_entry a)) sets i) sets) ∙ list_all-map place_entry (λ k. list_all (agree k) (map place_entry sets)) sets
+    (λ i. list_all (λ a. list_all-map place_entry (agree (place_entry a)) sets i) sets) ∙
+    list_all-map place_entry (λ k. list_all (agree k) (map place_entry sets)) sets

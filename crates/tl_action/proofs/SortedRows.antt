@@ -23,7 +23,11 @@ use Rattle.tl_syntax.specs.contracts.value.ValueOrd.TheImpl as value_impl
 
 contains-in : {A : Type 0} (xs : List A) (x : A) → Among x xs → Contains xs x
 contains-in [] x h = absurd h
-contains-in (y ∷ xs) x h = elim h [ inl e ↦ (0, omega arith, e) | inr k ↦ (let w = contains-in xs x k in let l = w.1 in (suc w.0, omega arith, w.2)) ]
+contains-in (y ∷ xs) x h = elim h [
+  | inl e ↦ (0, omega arith, e)
+  | inr k ↦
+      (let w = contains-in xs x k in let l = w.1 in (suc w.0, omega arith, w.2))
+]
 
 contains-out : {A : Type 0} (xs : List A) (x : A) (k : ℕ) → k < length xs → get_or xs k x ≡ x → Among x xs
 contains-out [] x k h e = absurd (omega arith)
@@ -54,7 +58,8 @@ ties x y =
     (λ h. (values-tell x y).1 (row_ties x y ((Equal-is (row_cmp x y)).0 h)))
 
 -- rows that were sorted and of which equal neighbours were dropped
-pub settled : (rows sorted kept : List (List Value)) → IsPermutation rows sorted → IsSorted derived_cmp sorted → kept ≡ dedup values_eq sorted → IsRows rows kept
+pub settled : (rows sorted kept : List (List Value)) → IsPermutation rows sorted → IsSorted derived_cmp sorted → kept ≡
+    dedup values_eq sorted → IsRows rows kept
 settled rows sorted kept moved up q =
     let equal = tells-equivalence values_eq values-tell in
     subst (IsRows rows) (sym q) (record {
@@ -66,5 +71,6 @@ settled rows sorted kept moved up q =
             let b = Contains-dedup equal (λ x y h. (values-tell x y).0 h) sorted t a in
             contains-out (dedup values_eq sorted) t b.0 b.1 b.2,
       );
-      order = rises-from row_cmp (dedup values_eq sorted) (IsStrictlySortedBy-dedup row_total ties sorted (subst (λ (R : List Value → List Value → Ordering). IsSorted R sorted) same-order up));
+      order = rises-from row_cmp (dedup values_eq sorted) (IsStrictlySortedBy-dedup row_total ties sorted
+          (subst (λ (R : List Value → List Value → Ordering). IsSorted R sorted) same-order up));
     })

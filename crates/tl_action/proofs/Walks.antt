@@ -1,5 +1,6 @@
 -- A walk over a list by its positions.
-use Rattle.std.proofs.Common.{◌≡◌, ◌<◌, ◌≤◌, ◌+◌, ℕ, zero, suc, List, [], ◌∷◌, ◌++◌, drop, take, length, get_or, Bool, true, false, ◌&&◌, refl, sym, ap, ◌∙◌, subst, drop-cons, add-one, arith}
+use Rattle.std.proofs.Common.{◌≡◌, ◌<◌, ◌≤◌, ◌+◌, ℕ, zero, suc, List, [], ◌∷◌, ◌++◌, drop, take, length, get_or, Bool, true, false, ◌&&◌}
+use Rattle.std.proofs.Common.{refl, sym, ap, ◌∙◌, subst, drop-cons, add-one, arith}
 use Rattle.std.proofs.lemmas.List.{take_more}
 use Rattle.std.specs.List.{list_all}
 use Rattle.tl_eval.proofs.ScopeLaws.{each-at}
@@ -38,7 +39,8 @@ get-itself xs i d h = same xs i d (get_or xs i d) h
     same (x ∷ xs) (suc i) d e h = same xs i d e (omega arith)
 
 -- a test of all items, in turn
-module _ {A : Type 0} (test : A → Bool) (xs : List A) (i : ℕ) (x : A) (h : i < length xs) (k : x ≡ get_or xs i x) (b : Bool) (q : b ≡ test x) (so : list_all test xs ≡ list_all test (drop i xs)) where
+module _ {A : Type 0} (test : A → Bool) (xs : List A) (i : ℕ) (x : A) (h : i < length xs) (k : x ≡ get_or xs i x) (b : Bool)
+    (q : b ≡ test x) (so : list_all test xs ≡ list_all test (drop i xs)) where
   opened : list_all test xs ≡ (b && list_all test (drop (i + 1) xs))
   opened = so ∙ (ap (list_all test) (drop-opened xs i x h k) ∙ ap (λ (c : Bool). c && list_all test (drop (i + 1) xs)) (sym q))
 
@@ -48,7 +50,8 @@ module _ {A : Type 0} (test : A → Bool) (xs : List A) (i : ℕ) (x : A) (h : i
   pub all-stop : b ≡ false → false ≡ list_all test xs
   all-stop t = sym (opened ∙ ap (λ (c : Bool). c && list_all test (drop (i + 1) xs)) t)
 
-pub all-end : {A : Type 0} (test : A → Bool) (xs : List A) (i : ℕ) → length xs ≤ i → list_all test xs ≡ list_all test (drop i xs) → true ≡ list_all test xs
+pub all-end : {A : Type 0} (test : A → Bool) (xs : List A) (i : ℕ) → length xs ≤ i → list_all test xs ≡ list_all test (drop i xs) → true ≡
+    list_all test xs
 all-end test xs i h so = sym (so ∙ ap (list_all test) (drop-past xs i h))
 
 -- ---- the first items of a list
@@ -65,7 +68,8 @@ get-taken (y ∷ xs) (suc j) zero x h = refl
 get-taken (y ∷ xs) (suc j) (suc i) x h = get-taken xs j i x (omega arith)
 
 -- what is left of them begins with the item at the position
-pub taken-opened : {A : Type 0} (xs : List A) (j i : ℕ) (x : A) → j ≤ length xs → i < j → x ≡ get_or xs i x → drop i (take j xs) ≡ x ∷ drop (i + 1) (take j xs)
+pub taken-opened : {A : Type 0} (xs : List A) (j i : ℕ) (x : A) → j ≤ length xs → i < j → x ≡ get_or xs i x → drop i (take j xs) ≡ x ∷
+    drop (i + 1) (take j xs)
 taken-opened xs j i x h l q =
     let many = length-taken xs j h in
     drop-opened (take j xs) i x (omega (arith, many, l)) (q ∙ sym (get-taken xs j i x l))

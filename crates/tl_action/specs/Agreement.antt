@@ -47,4 +47,5 @@ EffectsLeave g xs old new = (around : List ℕ) → EffectsFit g around xs → A
 
 -- and for effects below further variables
 abbrev pub EachLeaves : Signature → List Var → EffectTrees → Assignment → Assignment → Type 0
-EachLeaves g ss xs old new = (around : List ℕ) → Each (λ s. is_slot_in around s.slot ≡ false) ss → EffectsFit g (slots_of ss ++ around) xs → Agree around new old
+EachLeaves g ss xs old new = (around : List ℕ) → Each (λ s. is_slot_in around s.slot ≡ false) ss → EffectsFit g (slots_of ss ++ around) xs →
+    Agree around new old

@@ -37,7 +37,8 @@ Collects cs looked before after (Ok false) = list_all is_defined cs ≡ false
 Collects cs looked before after (Err fault) = IsCausedBy looked fault
 
 -- and so for the instances of effects below variables, for each of some tuples of their values
-abbrev pub CollectsEach : PlainProblem → World → Assignment → List Var → EffectTrees → List (List Value) → Changes → Changes → Result Bool EvalFault → Type 0
+abbrev pub CollectsEach : PlainProblem → World → Assignment → List Var → EffectTrees → List (List Value) → Changes → Changes →
+    Result Bool EvalFault → Type 0
 CollectsEach p w e ss xs ts before after r =
     let s = situation_of p w in
     let looked = flat_map (λ t. looked_in_effects (looks_of p w) s (bind ss t e) xs) ts in
@@ -46,12 +47,15 @@ CollectsEach p w e ss xs ts before after r =
 -- true where the arguments are defined, and the fact is then there; false where they are not; or a
 -- fault with its cause
 abbrev pub GivesFact : ℕ → Option (List Value) → List Operation → List Fact → List Fact → Result Bool EvalFault → Type 0
-GivesFact p args looked before after (Ok true) = (vs : List Value) × (args ≡ Some vs) × (after ≡ before ++ record { pred = p; args = vs } ∷ [])
+GivesFact p args looked before after (Ok true) = (vs : List Value) × (args ≡ Some vs) ×
+    (after ≡ before ++ record { pred = p; args = vs } ∷ [])
 GivesFact p args looked before after (Ok false) = args ≡ None
 GivesFact p args looked before after (Err fault) = IsCausedBy looked fault
 
 -- and so for a place, whose arguments are evaluated first, with its value
-abbrev pub GivesPlace : ℕ → Option (List Value) → Option Value → List Operation → List Operation → List PlaceValue → List PlaceValue → Result Bool EvalFault → Type 0
-GivesPlace f args value looked_args looked_value before after (Ok true) = (vs : List Value) × (v : Value) × (args ≡ Some vs) × (value ≡ Some v) × (after ≡ before ++ record { fun = f; args = vs; value = v } ∷ [])
+abbrev pub GivesPlace : ℕ → Option (List Value) → Option Value → List Operation → List Operation → List PlaceValue → List PlaceValue →
+    Result Bool EvalFault → Type 0
+GivesPlace f args value looked_args looked_value before after (Ok true) = (vs : List Value) × (v : Value) × (args ≡ Some vs) ×
+    (value ≡ Some v) × (after ≡ before ++ record { fun = f; args = vs; value = v } ∷ [])
 GivesPlace f args value looked_args looked_value before after (Ok false) = (args ≡ None) ⊎ (value ≡ None)
 GivesPlace f args value looked_args looked_value before after (Err fault) = IsCausedBy (looked_args ++ looked_value) fault

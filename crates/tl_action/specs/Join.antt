@@ -1,5 +1,6 @@
 -- The rows of values that an operator's bounds allow, bound by bound.
-use Rattle.std.specs.Prelude.{◌≡◌, ◌↔◌, ◌⊎◌, ◌≤◌, ◌&&◌, ℕ, zero, suc, List, [], ◌∷◌, ◌++◌, drop, filter, length, take, Bool, true, not, Result, Ok, Err}
+use Rattle.std.specs.Prelude.{◌≡◌, ◌↔◌, ◌⊎◌, ◌≤◌, ◌&&◌, ℕ, zero, suc, List, [], ◌∷◌, ◌++◌, drop, filter, length, take, Bool, true, not}
+use Rattle.std.specs.Prelude.{Result, Ok, Err}
 use Rattle.std.specs.List.{list_any}
 use Rattle.tl_eval.specs.declared.fault.EvalFault.{EvalFault}
 use Rattle.tl_eval.specs.declared.fault.EvalFault.TheVariants as fault
@@ -83,7 +84,8 @@ row_assignment o t = bind o.params t no_values
 
 -- the row has a value for each parameter, agrees with the frame on those that stand in a bound that
 -- was seen, and makes the other bounds true
-pub record IsCompletion (p : PlainProblem) (w : World) (o : PlainOperator) (seen rest : List Bound) (e : Assignment) (t : List Value) : Type 0 where
+pub record IsCompletion (p : PlainProblem) (w : World) (o : PlainOperator) (seen rest : List Bound) (e : Assignment)
+    (t : List Value) : Type 0 where
   pub arity : length t ≡ length o.params
   pub agrees : AgreeOnSeen seen o.params (row_assignment o t) e
   pub bounds : Each (λ b. bound_true (situation_of p w) (row_assignment o t) b ≡ true) rest
@@ -105,24 +107,29 @@ pub record IsPassed (p : PlainProblem) (w : World) (o : Operator) (e : Assignmen
   pub known : (d a : Assignment) → AgreeOnSeen (take k o.bounds) o.params d a → AgreeOnSeen (take j o.bounds) o.params d a
 
 -- and the operator can be applied with these values
-pub record IsFound (p : PlainProblem) (w : World) (o : PlainOperator) (seen rest : List Bound) (e : Assignment) (t : List Value) : Type 0 where
+pub record IsFound (p : PlainProblem) (w : World) (o : PlainOperator) (seen rest : List Bound) (e : Assignment)
+    (t : List Value) : Type 0 where
   pub completes : IsCompletion p w o seen rest e t
   pub prepared : is_prepared p w (row_assignment o t) o ≡ true
 
 -- a range fault tells an operation that is looked at with the values of such a row
 abbrev pub IsRowFault : PlainProblem → World → PlainOperator → List Bound → List Bound → Assignment → EvalFault → Type 0
-IsRowFault p w o seen rest e (fault.Range note) = (t : List Value) × IsCompletion p w o seen rest e t × Tells (looked_prepared p w (row_assignment o t) o) note
+IsRowFault p w o seen rest e (fault.Range note) = (t : List Value) × IsCompletion p w o seen rest e t ×
+    Tells (looked_prepared p w (row_assignment o t) o) note
 IsRowFault p w o seen rest e fault.NoMemory = Unit {0}
 
 -- the rows that were found are added; or a fault with its cause
-abbrev pub AddsRows : PlainProblem → World → PlainOperator → List Bound → List Bound → Assignment → List (List Value) → List (List Value) → Result (Unit {0}) EvalFault → Type 0
+abbrev pub AddsRows : PlainProblem → World → PlainOperator → List Bound → List Bound → Assignment → List (List Value) → List (List Value) →
+    Result (Unit {0}) EvalFault → Type 0
 AddsRows p w o seen rest e before after (Ok done) = (t : List Value) → Among t after ↔ (Among t before ⊎ IsFound p w o seen rest e t)
 AddsRows p w o seen rest e before after (Err x) = IsRowFault p w o seen rest e x
 
 -- and so from the j-th bound of the operator on
-abbrev pub JoinsFrom : PlainProblem → World → Operator → ℕ → Assignment → List (List Value) → List (List Value) → Result (Unit {0}) EvalFault → Type 0
+abbrev pub JoinsFrom : PlainProblem → World → Operator → ℕ → Assignment → List (List Value) → List (List Value) →
+    Result (Unit {0}) EvalFault → Type 0
 JoinsFrom p w o j e before after r = AddsRows p w (plain_operator o) (take j o.bounds) (drop j o.bounds) e before after r
 
 -- and so after all of its bounds: the one row that may be found has the values of the frame
-abbrev pub JoinsRow : PlainProblem → World → Operator → Assignment → List (List Value) → List (List Value) → Result (Unit {0}) EvalFault → Type 0
+abbrev pub JoinsRow : PlainProblem → World → Operator → Assignment → List (List Value) → List (List Value) → Result (Unit {0}) EvalFault →
+    Type 0
 JoinsRow p w o e before after r = AddsRows p w (plain_operator o) o.bounds [] e before after r

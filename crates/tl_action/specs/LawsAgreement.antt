@@ -16,8 +16,10 @@ TruthGoesByFreeSlots = (s : Situation) (d e : Assignment) (f : FormulaTree) → 
 
 -- what it looks at
 abbrev pub LookedGoesByFreeSlots : Type 0
-LookedGoesByFreeSlots = (l : LookedTable) (s : Situation) (d e : Assignment) (f : FormulaTree) → Agree (free_slots f) d e → looked_in_state l s d f ≡ looked_in_state l s e f
+LookedGoesByFreeSlots = (l : LookedTable) (s : Situation) (d e : Assignment) (f : FormulaTree) → Agree (free_slots f) d e →
+    looked_in_state l s d f ≡ looked_in_state l s e f
 
 -- the instances of effects
 abbrev pub InstancesGoByFreeSlots : Type 0
-InstancesGoByFreeSlots = (s : Situation) (d e : Assignment) (xs : EffectTrees) → Agree (effects_slots xs) d e → all_instances s d xs ≡ all_instances s e xs
+InstancesGoByFreeSlots = (s : Situation) (d e : Assignment) (xs : EffectTrees) → Agree (effects_slots xs) d e → all_instances s d xs ≡
+    all_instances s e xs

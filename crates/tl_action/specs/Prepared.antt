@@ -26,7 +26,8 @@ instances_of p w e o = all_instances (situation_of p w) e o.effects
 
 -- the precondition is true, each instance is defined, and no two set one place to different values
 abbrev pub is_prepared : PlainProblem → World → Assignment → PlainOperator → Bool
-is_prepared p w e o = state_true (situation_of p w) e o.pre && (list_all is_defined (instances_of p w e o) && no_clash (flat_map given (instances_of p w e o)))
+is_prepared p w e o = state_true (situation_of p w) e o.pre && (list_all is_defined (instances_of p w e o) && no_clash
+    (flat_map given (instances_of p w e o)))
 
 -- what the precondition looks at and, where it is true, the effects
 abbrev pub looked_prepared : PlainProblem → World → Assignment → PlainOperator → List Operation
@@ -38,7 +39,8 @@ looked_prepared p w e o =
 -- the changes that the effects make; none where an instance is undefined or two clash; or a fault
 -- with its cause
 abbrev pub CollectsWhole : PlainProblem → World → Assignment → PlainOperator → Result (Option Changes) EvalFault → Type 0
-CollectsWhole p w e o (Ok (Some changes)) = (no_clash (flat_map given (instances_of p w e o)) ≡ true) × HasMore (instances_of p w e o) no_changes changes
+CollectsWhole p w e o (Ok (Some changes)) = (no_clash (flat_map given (instances_of p w e o)) ≡ true) ×
+    HasMore (instances_of p w e o) no_changes changes
 CollectsWhole p w e o (Ok None) = (list_all is_defined (instances_of p w e o) && no_clash (flat_map given (instances_of p w e o))) ≡ false
 CollectsWhole p w e o (Err fault) = IsCausedBy (looked_in_effects (looks_of p w) (situation_of p w) e o.effects) fault
 

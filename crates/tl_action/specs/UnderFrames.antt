@@ -131,7 +131,8 @@ AreCollected here frame xs before after r =
 abbrev pub EachIsCollected : Here → List (Option Value) → ForEach → Changes → Changes → Result Bool EvalFault → Type 0
 EachIsCollected here frame each before after r =
     let e = assignment_in frame in
-    CollectsEach (problem_here here) here.world.now e each.vars.now (tree_of_effects each.effects.now) (tuples (situation_here here) e each.vars.now each.bound.now) before after r
+    CollectsEach (problem_here here) here.world.now e each.vars.now (tree_of_effects each.effects.now)
+    (tuples (situation_here here) e each.vars.now each.bound.now) before after r
 
 -- only slots of variables that the effect quantifies got other values in the frame
 abbrev pub EffectLeavesFrame : Here → Effect → List (Option Value) → List (Option Value) → Type 0
@@ -179,7 +180,8 @@ RowIsJoined here a frame before after r =
     JoinsRow (problem_here here) here.world.now (arranged a) (assignment_in frame) before.items after.items r
 
 -- the rows that complete the frame from the j-th bound on are added; or a fault with its cause
-abbrev pub RowsAreJoined : Here → Arranged → ℕ → List (Option Value) → Vec (List Value) → Vec (List Value) → Result (Unit {0}) EvalFault → Type 0
+abbrev pub RowsAreJoined : Here → Arranged → ℕ → List (Option Value) → Vec (List Value) → Vec (List Value) → Result (Unit {0}) EvalFault →
+    Type 0
 RowsAreJoined here a j frame before after r =
     JoinsFrom (problem_here here) here.world.now (arranged a) j (assignment_in frame) before.items after.items r
 
@@ -205,4 +207,5 @@ GivesRowsUnder here o frame result = IfOk result (λ rows. AreRowsUnder here o f
 
 -- a range fault tells an operation that is looked at with the values of a row that the bounds allow
 abbrev pub IsRowFaultUnder : Here → Operator → List (Option Value) → EvalFault → Type 0
-IsRowFaultUnder here o frame fault = IsRowFault (problem_here here) here.world.now (plain_operator o) [] o.bounds (assignment_in frame) fault
+IsRowFaultUnder here o frame fault = IsRowFault (problem_here here) here.world.now (plain_operator o) [] o.bounds
+    (assignment_in frame) fault

@@ -1,5 +1,6 @@
 -- What a breadth-first search for plans answers.
-use Rattle.std.proofs.Common.{◌≡◌, ◌≢◌, ◌≤◌, ◌<◌, ◌⊎◌, ℕ, ◌+◌, List, length, slice_get, Some, None, Less, Equal, sym, ap, ◌∙◌, subst, inl, inr, arith}
+use Rattle.std.proofs.Common.{◌≡◌, ◌≢◌, ◌≤◌, ◌<◌, ◌⊎◌, ℕ, ◌+◌, List, length, slice_get, Some, None, Less, Equal, sym, ap, ◌∙◌, subst, inl}
+use Rattle.std.proofs.Common.{inr, arith}
 use native.Mathlib.Decide.{dec_lt}
 use Rattle.std.specs.Cmp.{tied_itself}
 use Rattle.std.proofs.lemmas.Option.{slice_get_within}
@@ -31,21 +32,26 @@ not-after : (p : PlainProblem) (u w : List Action) → IsUpto (pair_graph p) u w
 unfolding pair_graph
 not-after p u w (inl e) same h = let q : Less ≡ Equal = sym h ∙ (ap (plan_cmp w) e ∙ tied_itself plans-total.total w) in cc
 not-after p u w (inr (inl k)) same h = let b : ⊥ = omega arith in b
-not-after p u w (inr (inr k)) same h = let q : Less ≡ Equal = sym (plans-total.total.trans w u w h k.1) ∙ tied_itself plans-total.total w in cc
+not-after p u w (inr (inr k)) same h = let q : Less ≡ Equal = sym (plans-total.total.trans w u w h k.1) ∙ tied_itself plans-total.total w in
+    cc
 
 -- where the root is pruned there is no open path
 pub no-root-no-plan : (p : PlainProblem) → (pair_graph p).root ≡ None → HasNoPlan p
 unfolding walk_from
-no-root-no-plan p e plan h = let k = (walk-accepted p plan).0 h in let d : None ≡ Some k.0 = sym (ap (λ o. walk_from (pair_graph p) o plan) e) ∙ k.1 in let b : ⊥ = cc in b
+no-root-no-plan p e plan h = let k = (walk-accepted p plan).0 h in let d : None ≡ Some k.0 =
+    sym (ap (λ o. walk_from (pair_graph p) o plan) e) ∙ k.1 in let b : ⊥ = cc in b
 
 pub no-root-no-pair : (p : PlainProblem) (n : ℕ) → (pair_graph p).root ≡ None → HasNoPairFrom p n
 unfolding walk_from
-no-root-no-pair p n e x m h = let k = (walk-open p h.path).0 h.open_path in let d : None ≡ Some k.0 = sym (ap (λ o. walk_from (pair_graph p) o h.path) e) ∙ k.1 in let b : ⊥ = cc in absurd b
+no-root-no-pair p n e x m h = let k = (walk-open p h.path).0 h.open_path in let d : None ≡ Some k.0 =
+    sym (ap (λ o. walk_from (pair_graph p) o h.path) e) ∙ k.1 in let b : ⊥ = cc in absurd b
 
 module _ (p : PlainProblem) (n : ℕ) (kept : List KeptPair) (done : ℕ) (tried : List Action) (s : IsBreadthFirst p n kept done tried) where
   -- the distance of a kept pair is the length of its path
   pub kept-distance : (i : ℕ) (x : KeptPair) → slice_get kept i ≡ Some x → IsDistance p x.node (length x.path)
-  kept-distance i x at = walk-distance p x.path x.node (s.are_kept.walks i x at) (λ other e. upto-longer (pair_graph p) (pairs-ordered p) x.path other (kept-first (pair_graph p) (pairs-ordered p) kept done tried s.are_kept s.searched i x other at e))
+  kept-distance i x at = walk-distance p x.path x.node (s.are_kept.walks i x at)
+      (λ other e. upto-longer (pair_graph p) (pairs-ordered p) x.path other
+      (kept-first (pair_graph p) (pairs-ordered p) kept done tried s.are_kept s.searched i x other at e))
 
   pub kept-open : (i : ℕ) (x : KeptPair) → slice_get kept i ≡ Some x → IsOpen p x.path
   kept-open i x at = (walk-open p x.path).1 (x.node, s.are_kept.walks i x at)
@@ -58,14 +64,16 @@ module _ (p : PlainProblem) (n : ℕ) (kept : List KeptPair) (done : ℕ) (tried
 
   -- ---- where none but the last pair can be accepted
 
-  module _ (b : ℕ) (last : KeptPair) (at : slice_get kept b ≡ Some last) (is_last : length kept ≡ b + 1) (none : NoneAccepted p kept b) where
+  module _ (b : ℕ) (last : KeptPair) (at : slice_get kept b ≡ Some last) (is_last : length kept ≡ b + 1)
+      (none : NoneAccepted p kept b) where
     last-first : (plan : List Action) → IsAccepted p plan → IsUpto (pair_graph p) last.path plan
     last-first plan h = by_reach (reached (pair_graph p) (pairs-ordered p) kept done tried s.are_kept s.searched plan k.0 k.1)
       where
         k : (x : Pair) × (walk (pair_graph p) plan ≡ Some x) × IsPairAccepted p x
         k = (walk-accepted p plan).0 h
 
-        by_reach : IsKeptUpto (pair_graph p) kept k.0 plan ⊎ IsAhead (pair_graph p) kept done tried plan → IsUpto (pair_graph p) last.path plan
+        by_reach : IsKeptUpto (pair_graph p) kept k.0 plan ⊎ IsAhead (pair_graph p) kept done tried plan →
+            IsUpto (pair_graph p) last.path plan
         by_reach (inl m) = by_place (dec_lt m.0 b)
           where
             by_place : Dec (m.0 < b) → IsUpto (pair_graph p) last.path plan
@@ -73,7 +81,8 @@ module _ (p : PlainProblem) (n : ℕ) (kept : List KeptPair) (done : ℕ) (tried
             by_place (no more) =
                 let q : m.0 < length kept = slice_get_within kept m.0 m.1 m.2 in
                 let same : m.0 ≡ b = omega arith in
-                subst (λ (y : KeptPair). IsUpto (pair_graph p) y.path plan) (get-one kept b m.1 last (subst (λ j. slice_get kept j ≡ Some m.1) same m.2) at) m.4
+                subst (λ (y : KeptPair). IsUpto (pair_graph p) y.path plan)
+                (get-one kept b m.1 last (subst (λ j. slice_get kept j ≡ Some m.1) same m.2) at) m.4
         by_reach (inr m) = inr (ahead-after (pair_graph p) (pairs-ordered p) kept done tried s.are_kept s.searched b last plan at m)
 
     -- no accepted plan is shorter than its path
@@ -93,7 +102,8 @@ module _ (p : PlainProblem) (n : ℕ) (kept : List KeptPair) (done : ℕ) (tried
     last-is-spent = record {
       many = length-pairs kept ∙ is_last;
       near = record {
-        differ = λ i j x e f. (let y = pair-kept kept i x e in let z = pair-kept kept j x f in s.are_kept.differ i j y.0 z.0 y.1 z.1 (y.2 ∙ sym z.2));
+        differ = λ i j x e f. (let y = pair-kept kept i x e in let z = pair-kept kept j x f in
+            s.are_kept.differ i j y.0 z.0 y.1 z.1 (y.2 ∙ sym z.2));
         near = λ i x e. (let y = pair-kept kept i x e in subst (IsNear p n) y.2 (kept-near i y.0 y.1));
       };
       unaccepted = λ i x less e h. (let y = pair-kept kept i x e in none i y.0 y.1 less (subst (IsPairAccepted p) (sym y.2) h));
@@ -114,7 +124,8 @@ module _ (p : PlainProblem) (n : ℕ) (kept : List KeptPair) (done : ℕ) (tried
             let k = (walk-open p d.path).0 d.open_path in
             let e : Some k.0 ≡ Some y = sym ((walk-pair p d.path k.0).0 k.1).0 ∙ d.its_pair in
             let f : walk (pair_graph p) d.path ≡ Some y = k.1 ∙ e in
-            let t = nearer-kept (pair_graph p) (pairs-ordered p) kept done tried s.are_kept s.searched b last d.path y at f (omega (arith, d.its_length)) in
+            let t = nearer-kept (pair_graph p) (pairs-ordered p) kept done tried s.are_kept s.searched b last d.path y at f
+            (omega (arith, d.its_length)) in
             subst (λ x. Among x (pairs_of kept)) t.3 (kept-among kept t.0 t.1 t.2)
 
   -- ---- where no kept pair is accepted
@@ -127,19 +138,25 @@ module _ (p : PlainProblem) (n : ℕ) (kept : List KeptPair) (done : ℕ) (tried
     pub turn-no-shorter : (x : KeptPair) → slice_get kept done ≡ Some x → HasNoPlanBelow p (length x.path + 1)
     turn-no-shorter x at plan h =
         let k = (walk-accepted p plan).0 h in
-        let q : length x.path < length plan = good-longer (pair_graph p) (pairs-ordered p) kept done tried s.are_kept s.searched (IsPairAccepted p) no-kept x plan k.0 at k.1 k.2 in
+        let q : length x.path < length plan = good-longer (pair_graph p) (pairs-ordered p) kept done tried s.are_kept s.searched
+        (IsPairAccepted p) no-kept x plan k.0 at k.1 k.2 in
         omega arith
 
     -- the pair whose turn it is has the greatest distance
     pub end-within : (x : KeptPair) → slice_get kept done ≡ Some x → n ≤ length x.path → HasNoPlanWithin p n × HasPairAt p n
     end-within x at far = (
       λ plan short h. (let q : length x.path + 1 ≤ length plan = turn-no-shorter x at plan h in let b : ⊥ = omega arith in b),
-      (x.node, subst (IsDistance p x.node) (let q : length x.path ≤ n = s.near done x at in let e : length x.path ≡ n = omega arith in e) (kept-distance done x at)),
+      (
+        x.node,
+        subst (IsDistance p x.node) (let q : length x.path ≤ n = s.near done x at in let e : length x.path ≡ n = omega arith in e)
+            (kept-distance done x at),
+      ),
     )
 
     -- no pair is left
     pub end-no-plan : length kept ≤ done → HasNoPlan p
-    end-no-plan all plan h = let k = (walk-accepted p plan).0 h in good-nowhere (pair_graph p) (pairs-ordered p) kept done tried s.are_kept s.searched (IsPairAccepted p) no-kept plan k.0 all k.1 k.2
+    end-no-plan all plan h = let k = (walk-accepted p plan).0 h in good-nowhere (pair_graph p)
+        (pairs-ordered p) kept done tried s.are_kept s.searched (IsPairAccepted p) no-kept plan k.0 all k.1 k.2
 
   pub end-no-pair : length kept ≤ done → HasNoPairFrom p n
   end-no-pair all x m d =

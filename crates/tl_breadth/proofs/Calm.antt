@@ -16,13 +16,15 @@ use Rattle.tl_breadth.specs.Outcomes.{IsBreadthFirstOutcome, IsBreadthFirstFault
 use Rattle.tl_breadth.specs.Events.{HasReported}
 use Rattle.tl_search.specs.History.{IsHistory}
 
-pub reported-history : (p : PlainProblem) (n : ℕ) (watch : Bool) (from : ℕ) (kept : List KeptPair) (events : List Event) (steps : ℕ) (o : Outcome) → HasReported p n watch from kept events steps o → IsHistory p watch kept events
+pub reported-history : (p : PlainProblem) (n : ℕ) (watch : Bool) (from : ℕ) (kept : List KeptPair) (events : List Event) (steps : ℕ)
+    (o : Outcome) → HasReported p n watch from kept events steps o → IsHistory p watch kept events
 reported-history p n watch from kept events steps (outcome.Plan plan) h = h.2.history
 reported-history p n watch from kept events steps outcome.NoPlan h = h.1.history
 reported-history p n watch from kept events steps outcome.NoneWithin h = h.1.history
 reported-history p n watch from kept events steps outcome.Spent h = h.2.history
 
-pub calm-outcome : (p : PlainProblem) (n b : ℕ) (kept : List KeptPair) (o : Outcome) → HasFewPairs p n b → IsBreadthFirstOutcome p n b kept o → o ≢ outcome.Spent
+pub calm-outcome : (p : PlainProblem) (n b : ℕ) (kept : List KeptPair) (o : Outcome) → HasFewPairs p n b →
+    IsBreadthFirstOutcome p n b kept o → o ≢ outcome.Spent
 calm-outcome p n b kept o few h e = few-not-spent p n b (pairs_of kept) few (subst (IsBreadthFirstOutcome p n b kept) e h).0
 
 pub calm-fault : (p : PlainProblem) (n : ℕ) (f : SearchFault) → IsCalm p n → IsBreadthFirstFault p n f → f ≡ fault.NoMemory

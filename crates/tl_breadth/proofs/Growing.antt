@@ -1,5 +1,6 @@
 -- Lists of kept pairs that grow by pairs of one level.
-use Rattle.std.proofs.Common.{◌≡◌, ◌≤◌, ◌<◌, ◌+◌, ℕ, List, [], ◌∷◌, ◌++◌, length, slice_get, Some, Result, Ok, Err, OnOk, OnErr, IfOk, sym, ap, ◌∙◌, subst, arith, inl, inr}
+use Rattle.std.proofs.Common.{◌≡◌, ◌≤◌, ◌<◌, ◌+◌, ℕ, List, [], ◌∷◌, ◌++◌, length, slice_get, Some, Result, Ok, Err, OnOk, OnErr, IfOk, sym}
+use Rattle.std.proofs.Common.{ap, ◌∙◌, subst, arith, inl, inr}
 use native.Mathlib.Decide.{dec_lt}
 use Rattle.std.proofs.lemmas.Option.{slice_get_within}
 use Rattle.tl_search.specs.KeptPairs.{KeptPair}
@@ -11,7 +12,8 @@ pub ok-anyway : {A E : Type 0} (X : Type 0) (r : Result A E) → X → OnOk r X
 ok-anyway X (Ok a) h = h
 ok-anyway X (Err e) h = tt
 
-pub ok-at : {X E : Type 0} (r : Result X E) (Q : ℕ → Type 0) (P : ℕ → X → Type 0) (from : ℕ) → Q from → IfOk r (λ o. (k : ℕ) → Q k → P k o) → IfOk r (P from)
+pub ok-at : {X E : Type 0} (r : Result X E) (Q : ℕ → Type 0) (P : ℕ → X → Type 0) (from : ℕ) → Q from →
+    IfOk r (λ o. (k : ℕ) → Q k → P k o) → IfOk r (P from)
 ok-at (Ok o) Q P from q h = h from q
 ok-at (Err e) Q P from q h = tt
 
@@ -19,7 +21,8 @@ pub grows-same : (m : ℕ) (old new : List KeptPair) → new ≡ old → GrowsBy
 grows-same m old new e = record {
   longer = omega (arith, ap length e);
   stay = λ i x at. subst (λ xs. slice_get xs i ≡ Some x) (sym e) at;
-  come = λ i x at less. (let q : i < length old = slice_get_within old i x (subst (λ xs. slice_get xs i ≡ Some x) e at) in let b : ⊥ = omega arith in absurd b);
+  come = λ i x at less. (let q : i < length old = slice_get_within old i x (subst (λ xs. slice_get xs i ≡ Some x) e at) in let b : ⊥ =
+      omega arith in absurd b);
 }
 
 pub grows-one : (m : ℕ) (old new : List KeptPair) (y : KeptPair) → new ≡ old ++ y ∷ [] → length y.path ≡ m → GrowsBy m old new
@@ -40,15 +43,18 @@ grows-trans m a b c g h = record {
 }
   where
     by_place : (i : ℕ) (x : KeptPair) → slice_get c i ≡ Some x → length a ≤ i → Dec (i < length b) → length x.path ≡ m
-    by_place i x at less (yes q) = let y = get-inside b i q in ap (λ (z : KeptPair). length z.path) (get-one c i x y.0 at (h.stay i y.0 y.1)) ∙ g.come i y.0 y.1 less
+    by_place i x at less (yes q) = let y = get-inside b i q in ap (λ (z : KeptPair). length z.path)
+        (get-one c i x y.0 at (h.stay i y.0 y.1)) ∙ g.come i y.0 y.1 less
     by_place i x at less (no q) = h.come i x at (omega arith)
 
 -- the levels stay those of the pairs
-pub levels-grow : (old new : List KeptPair) (done end depth : ℕ) → end ≤ length old → GrowsBy (depth + 1) old new → HasLevels old done end depth → HasLevels new (done + 1) end depth
+pub levels-grow : (old new : List KeptPair) (done end depth : ℕ) → end ≤ length old → GrowsBy (depth + 1) old new →
+    HasLevels old done end depth → HasLevels new (done + 1) end depth
 levels-grow old new done end depth inside g l i x at from = by_place (dec_lt i (length old))
   where
     by_place : Dec (i < length old) → (i < end → length x.path ≡ depth) × (end ≤ i → length x.path ≡ depth + 1)
-    by_place (yes q) = let y = get-inside old i q in let same = get-one new i y.0 x (g.stay i y.0 y.1) at in subst (λ (z : KeptPair). (i < end → length z.path ≡ depth) × (end ≤ i → length z.path ≡ depth + 1)) same (l i y.0 y.1 (omega arith))
+    by_place (yes q) = let y = get-inside old i q in let same = get-one new i y.0 x (g.stay i y.0 y.1) at in
+        subst (λ (z : KeptPair). (i < end → length z.path ≡ depth) × (end ≤ i → length z.path ≡ depth + 1)) same (l i y.0 y.1 (omega arith))
     by_place (no q) = (λ less. (let b : ⊥ = omega arith in absurd b), λ _. g.come i x at (omega arith))
 
 pub err-anyway : {A E : Type 0} (X : Type 0) (r : Result A E) → X → OnErr r X

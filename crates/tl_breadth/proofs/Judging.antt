@@ -13,7 +13,8 @@ use Rattle.tl_search.specs.KeptPairs.{KeptPair, pairs_of}
 use Rattle.tl_search.proofs.ListLaws.{get-inside}
 use Rattle.tl_search.proofs.RangeLaws.{range-by-idling}
 use Rattle.tl_search.proofs.FaultLaws.{acceptance-of-pair}
-use Rattle.tl_breadth.proofs.BreadthAnswers.{kept-distance, kept-open, kept-pair-of, last-no-shorter, last-is-plan, last-is-spent, last-is-spent-breadth-first}
+use Rattle.tl_breadth.proofs.BreadthAnswers.{kept-distance, kept-open, kept-pair-of, last-no-shorter, last-is-plan, last-is-spent}
+use Rattle.tl_breadth.proofs.BreadthAnswers.{last-is-spent-breadth-first}
 use Rattle.tl_breadth.specs.BreadthFirst.{NoneAccepted}
 use Rattle.tl_breadth.specs.Events.{IsLastPath}
 use Rattle.tl_search.specs.Causes.{IsCausedByAcceptance}
@@ -32,19 +33,29 @@ module _ (p : PlainProblem) (n b : ℕ) (kept : List KeptPair) (k : ℕ) (w : Aw
   shortest = kept-distance p n kept w.done w.tried w.breadth
 
   pub judged-spent : k ≡ b → IsSpent p n b (pairs_of kept) × IsSpentBreadthFirst p b (pairs_of kept) × PathsAreShortest p kept
-  judged-spent e = subst (λ m. IsSpent p n m (pairs_of kept) × IsSpentBreadthFirst p m (pairs_of kept) × PathsAreShortest p kept) e
-      (last-is-spent p n kept w.done w.tried w.breadth k the_last.0 the_last.1 w.last w.none, last-is-spent-breadth-first p n kept w.done w.tried w.breadth k the_last.0 the_last.1 w.last w.none, shortest)
+  judged-spent e = subst (λ m. IsSpent p n m (pairs_of kept) × IsSpentBreadthFirst p m (pairs_of kept) × PathsAreShortest p kept) e (
+    last-is-spent p n kept w.done w.tried w.breadth k the_last.0 the_last.1 w.last w.none,
+    last-is-spent-breadth-first p n kept w.done w.tried w.breadth k the_last.0 the_last.1 w.last w.none,
+    shortest,
+  )
 
-  pub judged-none : k ≢ b → ((x : KeptPair) → slice_get kept k ≡ Some x → IsPairAccepted p x.node → ⊥) → NoneAccepted p kept (k + 1) × (k + 1 ≤ b)
+  pub judged-none : k ≢ b → ((x : KeptPair) → slice_get kept k ≡ Some x → IsPairAccepted p x.node → ⊥) → NoneAccepted p kept (k + 1) ×
+      (k + 1 ≤ b)
   judged-none d h = (
-    λ i x e less a. elim (let q : i ≤ k = omega arith in eq-or-lt_of_le q) [ inl same ↦ h x (subst (λ j. slice_get kept j ≡ Some x) same e) a | inr before ↦ w.none i x e before a ],
+    λ i x e less a. elim (let q : i ≤ k = omega arith in eq-or-lt_of_le q) [
+      | inl same ↦ h x
+          (subst (λ j. slice_get kept j ≡ Some x) same e) a
+      | inr before ↦ w.none i x e before a
+    ],
     omega (arith, w.few, d),
   )
 
   module _ (path : List Action) (at : (x : KeptPair) → slice_get kept k ≡ Some x → path ≡ x.path) where
-    pub judged-plan : k ≢ b → ((x : KeptPair) → slice_get kept k ≡ Some x → IsPairAccepted p x.node) → IsFirstShortestPlan p n path × (length kept ≤ b) × PathsAreShortest p kept
+    pub judged-plan : k ≢ b → ((x : KeptPair) → slice_get kept k ≡ Some x → IsPairAccepted p x.node) → IsFirstShortestPlan p n path ×
+        (length kept ≤ b) × PathsAreShortest p kept
     judged-plan d h = (
-      subst (IsFirstShortestPlan p n) (sym (at the_last.0 the_last.1)) (last-is-plan p n kept w.done w.tried w.breadth k the_last.0 the_last.1 w.last w.none (h the_last.0 the_last.1)),
+      subst (IsFirstShortestPlan p n) (sym (at the_last.0 the_last.1))
+          (last-is-plan p n kept w.done w.tried w.breadth k the_last.0 the_last.1 w.last w.none (h the_last.0 the_last.1)),
       omega (arith, w.last, w.few, d),
       shortest,
     )
@@ -52,13 +63,16 @@ module _ (p : PlainProblem) (n b : ℕ) (kept : List KeptPair) (k : ℕ) (w : Aw
     pub judged-last : IsLastPath kept path
     judged-last = record { number = k; pair = the_last.0; is_pair = the_last.1; is_last = w.last; is_path = at the_last.0 the_last.1 }
 
-    pub judged-range : (note : RangeNote) → ((x : KeptPair) → slice_get kept k ≡ Some x → Tells (looked_by_idling p x.node.world x.node.formula) note) → IsRangeCause p n path (operation_of note) × HasNoPlanBelow p (length path)
+    pub judged-range : (note : RangeNote) → ((x : KeptPair) → slice_get kept k ≡ Some x →
+        Tells (looked_by_idling p x.node.world x.node.formula) note) → IsRangeCause p n path (operation_of note) ×
+        HasNoPlanBelow p (length path)
     judged-range note h =
         let x : KeptPair = the_last.0 in
         let e : slice_get kept k ≡ Some x = the_last.1 in
         let t = h x e in
         subst (λ us. IsRangeCause p n us (operation_of note) × HasNoPlanBelow p (length us)) (sym (at x e)) (
-          range-by-idling p n (operation_of note) t.1 x.path x.node (kept-pair-of p n kept w.done w.tried w.breadth k x e) (kept-open p n kept w.done w.tried w.breadth k x e) (w.breadth.near k x e) t.0,
+          range-by-idling p n (operation_of note) t.1 x.path x.node (kept-pair-of p n kept w.done w.tried w.breadth k x e)
+              (kept-open p n kept w.done w.tried w.breadth k x e) (w.breadth.near k x e) t.0,
           last-no-shorter p n kept w.done w.tried w.breadth k x e w.last w.none,
         )
 
@@ -67,7 +81,8 @@ module _ (p : PlainProblem) (n b : ℕ) (kept : List KeptPair) (k : ℕ) (w : Aw
       → ((x : KeptPair) → slice_get kept k ≡ Some x → IsCausedByAcceptance p x.node s) → IsBreadthFirstFault p n f
   judged-fault s fault.NoMemory is h = tt
   judged-fault (space.RangeHere note) (fault.Range path o) is h =
-      subst (λ (m : RangeNote). IsBreadthFirstFault p n (fault.Range path m)) (sym (is the_last.0 the_last.1).1) (judged-range path (λ x e. (is x e).0) note h)
+      subst (λ (m : RangeNote). IsBreadthFirstFault p n (fault.Range path m)) (sym (is the_last.0 the_last.1).1)
+      (judged-range path (λ x e. (is x e).0) note h)
   judged-fault (space.RangeAfter note) (fault.Range path o) is h = absurd (is the_last.0 the_last.1)
   judged-fault space.NoMemory (fault.Range path o) is h = absurd (is the_last.0 the_last.1)
 

@@ -1,5 +1,6 @@
 -- The order of walks.
-use Rattle.std.proofs.Common.{◌≡◌, ◌≤◌, suc, List, [], ◌∷◌, ◌++◌, length, Less, Equal, Greater, refl, sym, ap, ◌∙◌, subst, inl, inr, arith, Ordering}
+use Rattle.std.proofs.Common.{◌≡◌, ◌≤◌, suc, List, [], ◌∷◌, ◌++◌, length, Less, Equal, Greater, refl, sym, ap, ◌∙◌, subst, inl, inr, arith}
+use Rattle.std.proofs.Common.{Ordering}
 use Rattle.std.specs.Ordering.{ordering_then}
 use Rattle.std.specs.Cmp.{tied_itself}
 use Rattle.std.specs.Cmp.Lexicographic.{slice_cmp, lists_total}
@@ -37,13 +38,16 @@ module _ {A V : Type 0} (g : Graph A V) (o : OrdersTotally g.cmp) where
   pub grows : (u : List A) (a : A) → IsBefore g u (u ++ a ∷ [])
   grows u a = inl (omega (arith, length-snoc u a))
 
-  snoc-less : (u w : List A) (a b : A) → slice_cmp g.cmp u w ≡ Less → length u ≡ length w → slice_cmp g.cmp (u ++ a ∷ []) (w ++ b ∷ []) ≡ Less
+  snoc-less : (u w : List A) (a b : A) → slice_cmp g.cmp u w ≡ Less → length u ≡ length w → slice_cmp g.cmp (u ++ a ∷ []) (w ++ b ∷ []) ≡
+      Less
   snoc-less [] [] a b h e = cc
   snoc-less [] (y ∷ w) a b h e = let k : ⊥ = omega (arith, e) in absurd k
   snoc-less (x ∷ u) [] a b h e = let k : ⊥ = omega (arith, e) in absurd k
   snoc-less (x ∷ u) (y ∷ w) a b h e = by_first (g.cmp x y) h (let k : length u ≡ length w = omega (arith, e) in k) (snoc-less u w a b)
     where
-      by_first : (r : Ordering) → ordering_then r (slice_cmp g.cmp u w) ≡ Less → length u ≡ length w → (slice_cmp g.cmp u w ≡ Less → length u ≡ length w → slice_cmp g.cmp (u ++ a ∷ []) (w ++ b ∷ []) ≡ Less) → ordering_then r (slice_cmp g.cmp (u ++ a ∷ []) (w ++ b ∷ [])) ≡ Less
+      by_first : (r : Ordering) → ordering_then r (slice_cmp g.cmp u w) ≡ Less → length u ≡ length w →
+          (slice_cmp g.cmp u w ≡ Less → length u ≡ length w → slice_cmp g.cmp (u ++ a ∷ []) (w ++ b ∷ []) ≡ Less) →
+          ordering_then r (slice_cmp g.cmp (u ++ a ∷ []) (w ++ b ∷ [])) ≡ Less
       by_first Less k f m = refl
       by_first Equal k f m = m k f
       by_first Greater k f m = cc
@@ -54,7 +58,8 @@ module _ {A V : Type 0} (g : Graph A V) (o : OrdersTotally g.cmp) where
 
   last-less : (u : List A) (a b : A) → g.cmp a b ≡ Less → slice_cmp g.cmp (u ++ a ∷ []) (u ++ b ∷ []) ≡ Less
   last-less [] a b h = ap (λ r. ordering_then r Equal) h
-  last-less (x ∷ u) a b h = ap (λ r. ordering_then r (slice_cmp g.cmp (u ++ a ∷ []) (u ++ b ∷ []))) (tied_itself o.total x) ∙ last-less u a b h
+  last-less (x ∷ u) a b h = ap (λ r. ordering_then r (slice_cmp g.cmp (u ++ a ∷ []) (u ++ b ∷ []))) (tied_itself o.total x) ∙
+      last-less u a b h
 
   pub last-before : (u : List A) (a b : A) → g.cmp a b ≡ Less → IsBefore g (u ++ a ∷ []) (u ++ b ∷ [])
   last-before u a b h = inr (length-snoc u a ∙ sym (length-snoc u b), last-less u a b h)

@@ -1,5 +1,6 @@
 -- The order in which a breadth-first search has its arrivals, and what it reports of them.
-use Rattle.std.specs.Prelude.{◌≡◌, ◌<◌, ◌+◌, ◌⊎◌, ℕ, suc, List, [], ◌∷◌, ◌++◌, length, take, slice_get, Bool, true, Option, Some, None, IsTrue, is_some}
+use Rattle.std.specs.Prelude.{◌≡◌, ◌<◌, ◌+◌, ◌⊎◌, ℕ, suc, List, [], ◌∷◌, ◌++◌, length, take, slice_get, Bool, true, Option, Some, None}
+use Rattle.std.specs.Prelude.{IsTrue, is_some}
 use Rattle.std.specs.declared.cmp.Ordering.TheVariants.{Less}
 use Rattle.tl_syntax.specs.declared.action.Action.{Action}
 use Rattle.tl_syntax.specs.Lists.{Each, Among}
@@ -64,7 +65,8 @@ TellsRootOnce events = length events ≡ suc (length (arrivals_of events))
 
 -- as many steps as arrivals; the arrivals are the first ones and those of what was tried; where
 -- they are watched, the events are true and report just these after the root's
-pub record IsReported (p : PlainProblem) (n : ℕ) (watch : Bool) (from : ℕ) (kept : List KeptPair) (done : ℕ) (tried : List Action) (events : List Event) (steps : ℕ) : Type 0 where
+pub record IsReported (p : PlainProblem) (n : ℕ) (watch : Bool) (from : ℕ) (kept : List KeptPair) (done : ℕ) (tried : List Action)
+    (events : List Event) (steps : ℕ) : Type 0 where
   pub arrived : List Arrived
   pub first : AreFirstArrivals p n kept arrived
   pub upto : (r : Arrived) → Among r arrived → IsTried done tried r.0 r.1
@@ -76,7 +78,8 @@ pub record IsReported (p : PlainProblem) (n : ℕ) (watch : Bool) (from : ℕ) (
 
 -- it is so after some part of the search
 abbrev pub IsReportedSomewhere : PlainProblem → ℕ → Bool → ℕ → List KeptPair → List Event → ℕ → Type 0
-IsReportedSomewhere p n watch from kept events steps = (done : ℕ) × (tried : List Action) × IsReported p n watch from kept done tried events steps
+IsReportedSomewhere p n watch from kept events steps = (done : ℕ) × (tried : List Action) ×
+    IsReported p n watch from kept done tried events steps
 
 -- as many steps as first arrivals of the kept pairs: all that an answer has, also where it is a
 -- fault
@@ -87,7 +90,9 @@ pub record IsTicked (p : PlainProblem) (n from : ℕ) (kept : List KeptPair) (st
 
 -- the step by the action of the pair, the k-th of any listed ones, is one of an arrival
 abbrev pub TicksArrival : PlainProblem → ℕ → Bool → List KeptPair → List KeptPair → ℕ → Action → List Event → ℕ → ℕ → Type 0
-TicksArrival p n watch old new at a es steps more = (from k : ℕ) (pair : KeptPair) (listed : List Action) → slice_get old at ≡ Some pair → length pair.path < n → ListsActions p pair.node.world listed → slice_get listed k ≡ Some a → IsReported p n watch from old at (take k listed) es steps → IsTicked p n from new more
+TicksArrival p n watch old new at a es steps more = (from k : ℕ) (pair : KeptPair) (listed : List Action) → slice_get old at ≡ Some pair →
+    length pair.path < n → ListsActions p pair.node.world listed → slice_get listed k ≡ Some a →
+    IsReported p n watch from old at (take k listed) es steps → IsTicked p n from new more
 
 -- so it is in the search
 abbrev pub TicksArrivalIn : BreadthFirst → PlainProblem → List KeptPair → List KeptPair → ℕ → Action → List Event → ℕ → ℕ → Type 0
@@ -99,25 +104,34 @@ Ticks p n watch old new at es steps more = (from : ℕ) → IsReported p n watch
 
 -- the arrival by the action of the pair, the k-th of any listed ones, is reported
 abbrev pub ReportsArrival : PlainProblem → ℕ → Bool → List KeptPair → List KeptPair → ℕ → Action → List Event → List Event → ℕ → ℕ → Type 0
-ReportsArrival p n watch old new at a es later steps more = (from k : ℕ) (pair : KeptPair) (listed : List Action) → slice_get old at ≡ Some pair → length pair.path < n → ListsActions p pair.node.world listed → slice_get listed k ≡ Some a → IsReported p n watch from old at (take k listed) es steps → IsReported p n watch from new at (take (k + 1) listed) later more
+ReportsArrival p n watch old new at a es later steps more = (from k : ℕ) (pair : KeptPair) (listed : List Action) → slice_get old at ≡
+    Some pair → length pair.path < n → ListsActions p pair.node.world listed → slice_get listed k ≡ Some a →
+    IsReported p n watch from old at (take k listed) es steps → IsReported p n watch from new at (take (k + 1) listed) later more
 
 -- so it is in the search
-abbrev pub ReportsArrivalIn : BreadthFirst → PlainProblem → List KeptPair → List KeptPair → ℕ → Action → List Event → List Event → ℕ → ℕ → Type 0
+abbrev pub ReportsArrivalIn : BreadthFirst → PlainProblem → List KeptPair → List KeptPair → ℕ → Action → List Event → List Event → ℕ → ℕ →
+    Type 0
 ReportsArrivalIn s p old new at a es later steps more = ReportsArrival p s.within s.watch old new at a es later steps more
 
 -- what happened between two pairs' turns is reported; where it ended the search, up to somewhere
-abbrev pub ReportsTurn : PlainProblem → ℕ → Bool → List KeptPair → List KeptPair → ℕ → ℕ → List Event → List Event → ℕ → ℕ → Option Outcome → Type 0
-ReportsTurn p n watch old new at next es later steps more None = (from : ℕ) → IsReported p n watch from old at [] es steps → IsReported p n watch from new next [] later more
-ReportsTurn p n watch old new at next es later steps more (Some o) = (from : ℕ) → IsReported p n watch from old at [] es steps → IsReportedSomewhere p n watch from new later more
+abbrev pub ReportsTurn : PlainProblem → ℕ → Bool → List KeptPair → List KeptPair → ℕ → ℕ → List Event → List Event → ℕ → ℕ →
+    Option Outcome → Type 0
+ReportsTurn p n watch old new at next es later steps more None = (from : ℕ) → IsReported p n watch from old at [] es steps →
+    IsReported p n watch from new next [] later more
+ReportsTurn p n watch old new at next es later steps more (Some o) = (from : ℕ) → IsReported p n watch from old at [] es steps →
+    IsReportedSomewhere p n watch from new later more
 
 -- so it is in the search
-abbrev pub ReportsTurnIn : BreadthFirst → PlainProblem → List KeptPair → List KeptPair → ℕ → ℕ → List Event → List Event → ℕ → ℕ → Option Outcome → Type 0
+abbrev pub ReportsTurnIn : BreadthFirst → PlainProblem → List KeptPair → List KeptPair → ℕ → ℕ → List Event → List Event → ℕ → ℕ →
+    Option Outcome → Type 0
 ReportsTurnIn s p old new at next es later steps more o = ReportsTurn p s.within s.watch old new at next es later steps more o
 
 -- the arrivals and events of a whole search: where there is no plan, none is left out
 abbrev pub HasReported : PlainProblem → ℕ → Bool → ℕ → List KeptPair → List Event → ℕ → Outcome → Type 0
-HasReported p n watch from kept events steps outcome.NoPlan = (done : ℕ) × (r : IsReported p n watch from kept done [] events steps) × AreAllArrivals p n kept r.arrived
-HasReported p n watch from kept events steps outcome.NoneWithin = (done : ℕ) × (r : IsReported p n watch from kept done [] events steps) × AreAllArrivals p n kept r.arrived
+HasReported p n watch from kept events steps outcome.NoPlan = (done : ℕ) × (r : IsReported p n watch from kept done [] events steps) ×
+    AreAllArrivals p n kept r.arrived
+HasReported p n watch from kept events steps outcome.NoneWithin = (done : ℕ) × (r : IsReported p n watch from kept done [] events steps) ×
+    AreAllArrivals p n kept r.arrived
 HasReported p n watch from kept events steps o = IsReportedSomewhere p n watch from kept events steps
 
 -- so it is of the search
@@ -127,7 +141,8 @@ ReportsSearch s p from kept events steps o = HasReported p s.within s.watch from
 -- where the arrivals and events before the first pair's turn are reported, so are those of the
 -- whole search
 abbrev pub ReportsRest : BreadthFirst → PlainProblem → List KeptPair → List KeptPair → List Event → List Event → ℕ → ℕ → Outcome → Type 0
-ReportsRest s p old new es later steps more o = (from : ℕ) → IsReported p s.within s.watch from old 0 [] es steps → HasReported p s.within s.watch from new later more o
+ReportsRest s p old new es later steps more o = (from : ℕ) → IsReported p s.within s.watch from old 0 [] es steps →
+    HasReported p s.within s.watch from new later more o
 
 -- the plan is the path of the last of the kept pairs
 pub record IsLastPath (kept : List KeptPair) (plan : List Action) : Type 0 where

@@ -27,7 +27,8 @@ abbrev pub IsBreadthFirstOutcome : PlainProblem → ℕ → ℕ → List KeptPai
 IsBreadthFirstOutcome p n b kept (outcome.Plan plan) = IsFirstShortestPlan p n plan × (length kept ≤ b) × PathsAreShortest p kept
 IsBreadthFirstOutcome p n b kept outcome.NoPlan = HasNoPlan p × HasNoPairFrom p n × (length kept ≤ b) × PathsAreShortest p kept
 IsBreadthFirstOutcome p n b kept outcome.NoneWithin = HasNoPlanWithin p n × HasPairAt p n × (length kept ≤ b) × PathsAreShortest p kept
-IsBreadthFirstOutcome p n b kept outcome.Spent = IsSpent p n b (pairs_of kept) × IsSpentBreadthFirst p b (pairs_of kept) × PathsAreShortest p kept
+IsBreadthFirstOutcome p n b kept outcome.Spent = IsSpent p n b (pairs_of kept) × IsSpentBreadthFirst p b (pairs_of kept) ×
+    PathsAreShortest p kept
 
 -- past range has its cause, and no accepted plan is shorter than the path; want of memory has no
 -- cause
@@ -73,7 +74,9 @@ HasTurnIn s p kept at a = HasTurn p s.within s.nodes kept at a
 -- the search went on by trying the action, the k-th of any listed ones, and kept at most one more
 -- pair
 abbrev pub IsTriedThen : PlainProblem → ℕ → ℕ → List KeptPair → List KeptPair → ℕ → Action → Type 0
-IsTriedThen p n b old new at a = (pair : KeptPair) (listed : List Action) (k : ℕ) → slice_get old at ≡ Some pair → ListsActions p pair.node.world listed → slice_get listed k ≡ Some a → IsSearching p n b old at (take k listed) → IsSearching p n b new at (take (k + 1) listed)
+IsTriedThen p n b old new at a = (pair : KeptPair) (listed : List Action) (k : ℕ) → slice_get old at ≡ Some pair →
+    ListsActions p pair.node.world listed → slice_get listed k ≡ Some a → IsSearching p n b old at (take k listed) →
+    IsSearching p n b new at (take (k + 1) listed)
 
 -- the list has grown: old pairs have their numbers still, and each new one has a path of m actions
 pub record GrowsBy (m : ℕ) (old new : List KeptPair) : Type 0 where
@@ -95,7 +98,8 @@ IsReadyIn s p kept at = IsReady p s.within s.nodes kept at
 -- the pairs from `done` on are of two levels: those below `end` have paths of `depth` actions, the
 -- others of one more
 abbrev pub HasLevels : List KeptPair → ℕ → ℕ → ℕ → Type 0
-HasLevels kept done end depth = (i : ℕ) (x : KeptPair) → slice_get kept i ≡ Some x → done ≤ i → (i < end → length x.path ≡ depth) × (end ≤ i → length x.path ≡ depth + 1)
+HasLevels kept done end depth = (i : ℕ) (x : KeptPair) → slice_get kept i ≡ Some x → done ≤ i → (i < end → length x.path ≡ depth) ×
+    (end ≤ i → length x.path ≡ depth + 1)
 
 -- what one part of the search leaves: an outcome that ends it, or none
 abbrev pub Leaves : PlainProblem → ℕ → ℕ → List KeptPair → Type 0 → Option Outcome → Type 0

@@ -1,5 +1,6 @@
 -- The events of a breadth-first search that found no plan give a proof that covers the search space.
-use Rattle.std.proofs.Common.{◌≡◌, ◌≢◌, ◌≤◌, ◌<◌, ◌+◌, ◌^◌, ◌⊎◌, ℕ, zero, suc, List, [], ◌∷◌, ◌++◌, length, take, slice_get, Option, Some, None, refl, sym, ap, ap₂, ◌∙◌, subst, inl, inr, arith}
+use Rattle.std.proofs.Common.{◌≡◌, ◌≢◌, ◌≤◌, ◌<◌, ◌+◌, ◌^◌, ◌⊎◌, ℕ, zero, suc, List, [], ◌∷◌, ◌++◌, length, take, slice_get, Option, Some}
+use Rattle.std.proofs.Common.{None, refl, sym, ap, ap₂, ◌∙◌, subst, inl, inr, arith}
 use Rattle.std.proofs.lemmas.Option.{slice_get_within}
 use Rattle.tl_syntax.specs.declared.action.Action.{Action}
 use Rattle.tl_syntax.specs.Lists.{Among, AtLeastOne}
@@ -31,7 +32,8 @@ module _ (p : PlainProblem) where
   -- ---- the numbers of links
 
   -- with so many links before, of which each keeps a pair, an event that keeps one starts from a link before it or from the root
-  pub events-start : (old : List KeptPair) (es : List Event) (new : List KeptPair) (before : ℕ) → AreTrueEvents p old es new → length old ≤ before + 1 → StartBefore before (links_of es)
+  pub events-start : (old : List KeptPair) (es : List Event) (new : List KeptPair) (before : ℕ) → AreTrueEvents p old es new →
+      length old ≤ before + 1 → StartBefore before (links_of es)
   events-start old [] new before told few = tt
   events-start old (event.RootKept ∷ es) new before told few =
       let t = told.1 in
@@ -56,7 +58,8 @@ module _ (p : PlainProblem) where
       events-start told.0 es new before told.2 (omega (arith, m, few))
 
   -- and there are no more of them than kept pairs
-  pub events-few : (old : List KeptPair) (es : List Event) (new : List KeptPair) → AreTrueEvents p old es new → length (links_of es) + length old ≤ length new
+  pub events-few : (old : List KeptPair) (es : List Event) (new : List KeptPair) → AreTrueEvents p old es new →
+      length (links_of es) + length old ≤ length new
   events-few old [] new told = let m : length old ≡ length new = ap length told in omega (arith, m)
   events-few old (event.RootKept ∷ es) new told =
       let t = told.1 in
@@ -87,14 +90,18 @@ module _ (p : PlainProblem) where
   -- ---- true events
 
   -- kept pairs keep their numbers
-  event-stays : (old : List KeptPair) (e : Event) (new : List KeptPair) (i : ℕ) (x : KeptPair) → IsTrueEvent p old e new → slice_get old i ≡ Some x → slice_get new i ≡ Some x
-  event-stays old event.RootKept new i x t s = let d : slice_get [] i ≡ Some x = subst (λ zs. slice_get zs i ≡ Some x) t.3 s in let b : ⊥ = cc in absurd b
-  event-stays old event.RootPruned new i x t s = let d : slice_get [] i ≡ Some x = subst (λ zs. slice_get zs i ≡ Some x) t.3 s in let b : ⊥ = cc in absurd b
+  event-stays : (old : List KeptPair) (e : Event) (new : List KeptPair) (i : ℕ) (x : KeptPair) → IsTrueEvent p old e new → slice_get old i ≡
+      Some x → slice_get new i ≡ Some x
+  event-stays old event.RootKept new i x t s = let d : slice_get [] i ≡ Some x = subst (λ zs. slice_get zs i ≡ Some x) t.3 s in let b : ⊥ =
+      cc in absurd b
+  event-stays old event.RootPruned new i x t s = let d : slice_get [] i ≡ Some x = subst (λ zs. slice_get zs i ≡ Some x) t.3 s in
+      let b : ⊥ = cc in absurd b
   event-stays old (event.Kept j a k) new i x t s = subst (λ zs. slice_get zs i ≡ Some x) (sym t.7) (get-old old _ i x s)
   event-stays old (event.Seen j a k) new i x t s = subst (λ zs. slice_get zs i ≡ Some x) (sym t.5) s
   event-stays old (event.Pruned j a) new i x t s = subst (λ zs. slice_get zs i ≡ Some x) (sym t.5) s
 
-  events-stay : (old : List KeptPair) (es : List Event) (new : List KeptPair) (i : ℕ) (x : KeptPair) → AreTrueEvents p old es new → slice_get old i ≡ Some x → slice_get new i ≡ Some x
+  events-stay : (old : List KeptPair) (es : List Event) (new : List KeptPair) (i : ℕ) (x : KeptPair) → AreTrueEvents p old es new →
+      slice_get old i ≡ Some x → slice_get new i ≡ Some x
   events-stay old [] new i x t s = subst (λ zs. slice_get zs i ≡ Some x) t s
   events-stay old (e ∷ es) new i x t s = events-stay t.0 es new i x t.2 (event-stays old e t.0 i x t.1 s)
 
@@ -102,7 +109,9 @@ module _ (p : PlainProblem) where
   abbrev pub IsMet : List KeptPair → Pair → Type 0
   IsMet kept y = (y.formula ≡ falsum) ⊎ ((m : ℕ) × (z : KeptPair) × (slice_get kept m ≡ Some z) × (z.node ≡ y))
 
-  event-meets : (old : List KeptPair) (e : Event) (new : List KeptPair) (j : ℕ) (a : Action) (x : KeptPair) (y : Pair) → IsTrueEvent p old e new → IsOf j a e → ((u : KeptPair) → slice_get old j ≡ Some u → u ≡ x) → next_pair p x.node a ≡ Some y → IsMet new y
+  event-meets : (old : List KeptPair) (e : Event) (new : List KeptPair) (j : ℕ) (a : Action) (x : KeptPair) (y : Pair) →
+      IsTrueEvent p old e new → IsOf j a e → ((u : KeptPair) → slice_get old j ≡ Some u → u ≡ x) → next_pair p x.node a ≡ Some y →
+      IsMet new y
   event-meets old event.RootKept new j a x y t o s n = absurd o
   event-meets old event.RootPruned new j a x y t o s n = absurd o
   event-meets old (event.Kept i b k) new j a x y t o s n =
@@ -119,13 +128,17 @@ module _ (p : PlainProblem) where
       let d : Some t.1 ≡ Some y = sym t.3 ∙ (ap₂ (λ (z : KeptPair) c. next_pair p z.node c) u o.1 ∙ n) in
       inl (let q : t.1 ≡ y = cc in ap (λ (z : Pair). z.formula) (sym q) ∙ t.4)
 
-  met-later : (old : List KeptPair) (es : List Event) (new : List KeptPair) (y : Pair) → AreTrueEvents p old es new → IsMet old y → IsMet new y
+  met-later : (old : List KeptPair) (es : List Event) (new : List KeptPair) (y : Pair) → AreTrueEvents p old es new → IsMet old y →
+      IsMet new y
   met-later old es new y t (inl f) = inl f
   met-later old es new y t (inr m) = inr (m.0, m.1, events-stay old es new m.0 m.1 t m.2, m.3)
 
-  events-meet : (old : List KeptPair) (es : List Event) (new : List KeptPair) (j : ℕ) (a : Action) (x : KeptPair) (y : Pair) → AreTrueEvents p old es new → AtLeastOne (IsOf j a) es → slice_get new j ≡ Some x → next_pair p x.node a ≡ Some y → IsMet new y
+  events-meet : (old : List KeptPair) (es : List Event) (new : List KeptPair) (j : ℕ) (a : Action) (x : KeptPair) (y : Pair) →
+      AreTrueEvents p old es new → AtLeastOne (IsOf j a) es → slice_get new j ≡ Some x → next_pair p x.node a ≡ Some y → IsMet new y
   events-meet old [] new j a x y t o s n = absurd o
-  events-meet old (e ∷ es) new j a x y t (inl o) s n = met-later t.0 es new y t.2 (event-meets old e t.0 j a x y t.1 o (λ u q. get-one new j u x (events-stay t.0 es new j u t.2 (event-stays old e t.0 j u t.1 q)) s) n)
+  events-meet old (e ∷ es) new j a x y t (inl o) s n = met-later t.0 es new y t.2
+      (event-meets old e t.0 j a x y t.1 o (λ u q. get-one new j u x (events-stay t.0 es new j u t.2 (event-stays old e t.0 j u t.1 q)) s)
+      n)
   events-meet old (e ∷ es) new j a x y t (inr o) s n = events-meet t.0 es new j a x y t.2 o s n
 
   -- ---- the links of events
@@ -135,16 +148,20 @@ module _ (p : PlainProblem) where
   HasRoot old = (0 < length old) ⊎ ((x : Pair) × (pair_of p [] ≡ Some x) × (x.formula ≡ falsum))
 
   module _ (bound : Option ℕ) where
-    events-good : (old : List KeptPair) (es : List Event) (new : List KeptPair) → HasRoot old → AreTrueEvents p old es new → ((j : ℕ) (a : Action) (k : ℕ) (x : KeptPair) → Among (event.Kept j a k) es → slice_get new j ≡ Some x → IsWithinBound bound (x.path ++ a ∷ [])) → AreGood p bound old (links_of es) new
+    events-good : (old : List KeptPair) (es : List Event) (new : List KeptPair) → HasRoot old → AreTrueEvents p old es new →
+        ((j : ℕ) (a : Action) (k : ℕ) (x : KeptPair) → Among (event.Kept j a k) es → slice_get new j ≡ Some x →
+        IsWithinBound bound (x.path ++ a ∷ [])) → AreGood p bound old (links_of es) new
     events-good old [] new r t near = sym t
     events-good old (event.RootKept ∷ es) new r t near = absurd (by_root r)
       where
         by_root : HasRoot old → ⊥
         by_root (inl some) = let b : ⊥ = omega (arith, ap length t.1.3) in b
-        by_root (inr h) = let d : Some t.1.0 ≡ Some h.0 = sym t.1.1 ∙ h.1 in let s : t.1.0 ≡ h.0 = cc in t.1.2 (ap (λ (z : Pair). z.formula) s ∙ h.2)
+        by_root (inr h) = let d : Some t.1.0 ≡ Some h.0 = sym t.1.1 ∙ h.1 in let s : t.1.0 ≡ h.0 = cc in
+            t.1.2 (ap (λ (z : Pair). z.formula) s ∙ h.2)
     events-good old (event.RootPruned ∷ es) new r t near =
         let same : t.0 ≡ old = t.1.4 ∙ sym t.1.3 in
-        subst (λ zs. AreGood p bound zs (links_of es) new) same (events-good t.0 es new (subst HasRoot (sym same) r) t.2 (λ j a k x m. near j a k x (inr m)))
+        subst (λ zs. AreGood p bound zs (links_of es) new) same (events-good t.0 es new (subst HasRoot (sym same) r) t.2
+        (λ j a k x m. near j a k x (inr m)))
     events-good old (event.Kept j a k ∷ es) new r t near =
         let node : KeptPair = record { node = t.1.1; path = t.1.0.path ++ a ∷ [] } in (
           node,
@@ -157,28 +174,50 @@ module _ (p : PlainProblem) where
             path = refl;
             near = near j a k t.1.0 (inl refl) (events-stay old (event.Kept j a k ∷ es) new j t.1.0 t t.1.2);
           },
-          subst (λ zs. AreGood p bound zs (links_of es) new) t.1.7 (events-good t.0 es new (inl (omega (arith, ap length t.1.7, length-snoc old node))) t.2 (λ i b m x h. near i b m x (inr h))),
+          subst (λ zs. AreGood p bound zs (links_of es) new) t.1.7 (events-good t.0 es new
+              (inl (omega (arith, ap length t.1.7, length-snoc old node))) t.2 (λ i b m x h. near i b m x (inr h))),
         )
-    events-good old (event.Seen j a k ∷ es) new r t near = subst (λ zs. AreGood p bound zs (links_of es) new) t.1.5 (events-good t.0 es new (subst HasRoot (sym t.1.5) r) t.2 (λ i b m x h. near i b m x (inr h)))
-    events-good old (event.Pruned j a ∷ es) new r t near = subst (λ zs. AreGood p bound zs (links_of es) new) t.1.5 (events-good t.0 es new (subst HasRoot (sym t.1.5) r) t.2 (λ i b m x h. near i b m x (inr h)))
+    events-good old (event.Seen j a k ∷ es) new r t near = subst (λ zs. AreGood p bound zs (links_of es) new) t.1.5
+        (events-good t.0 es new (subst HasRoot (sym t.1.5) r) t.2 (λ i b m x h. near i b m x (inr h)))
+    events-good old (event.Pruned j a ∷ es) new r t near = subst (λ zs. AreGood p bound zs (links_of es) new) t.1.5
+        (events-good t.0 es new (subst HasRoot (sym t.1.5) r) t.2 (λ i b m x h. near i b m x (inr h)))
 
-    events-list : (es : List Event) (kept : List KeptPair) → (es ≡ [] → ⊥) → AreTrueEvents p [] es kept → ((j : ℕ) (a : Action) (k : ℕ) (x : KeptPair) → Among (event.Kept j a k) es → slice_get kept j ≡ Some x → IsWithinBound bound (x.path ++ a ∷ [])) → Lists p bound (links_of es) kept
+    events-list : (es : List Event) (kept : List KeptPair) → (es ≡ [] → ⊥) → AreTrueEvents p [] es kept →
+        ((j : ℕ) (a : Action) (k : ℕ) (x : KeptPair) → Among (event.Kept j a k) es → slice_get kept j ≡ Some x →
+        IsWithinBound bound (x.path ++ a ∷ [])) → Lists p bound (links_of es) kept
     events-list [] kept some t near = absurd (some refl)
-    events-list (event.RootKept ∷ es) kept some t near = (t.0, (t.1.0, t.1.1, inr (t.1.2, t.1.4)), events-good t.0 es kept (inl (omega (arith, ap length t.1.4))) t.2 (λ j a k x m. near j a k x (inr m)))
-    events-list (event.RootPruned ∷ es) kept some t near = (t.0, (t.1.0, t.1.1, inl (t.1.2, t.1.4)), events-good t.0 es kept (inr (t.1.0, t.1.1, t.1.2)) t.2 (λ j a k x m. near j a k x (inr m)))
+    events-list (event.RootKept ∷ es) kept some t near = (
+      t.0,
+      (t.1.0, t.1.1, inr (t.1.2, t.1.4)),
+      events-good t.0 es kept (inl (omega (arith, ap length t.1.4))) t.2 (λ j a k x m. near j a k x (inr m)),
+    )
+    events-list (event.RootPruned ∷ es) kept some t near = (
+      t.0,
+      (t.1.0, t.1.1, inl (t.1.2, t.1.4)),
+      events-good t.0 es kept (inr (t.1.0, t.1.1, t.1.2)) t.2 (λ j a k x m. near j a k x (inr m)),
+    )
     events-list (event.Kept j a k ∷ es) kept some t near = let b : ⊥ = cc in absurd b
     events-list (event.Seen j a k ∷ es) kept some t near = let b : ⊥ = cc in absurd b
     events-list (event.Pruned j a ∷ es) kept some t near = let b : ⊥ = cc in absurd b
 
     -- the paths of listed nodes are within the bound
-    good-within : (old : List KeptPair) (links : List Link) (new : List KeptPair) → AreGood p bound old links new → ((i : ℕ) (x : KeptPair) → slice_get old i ≡ Some x → IsWithinBound bound x.path) → (i : ℕ) (x : KeptPair) → slice_get new i ≡ Some x → IsWithinBound bound x.path
+    good-within : (old : List KeptPair) (links : List Link) (new : List KeptPair) → AreGood p bound old links new →
+        ((i : ℕ) (x : KeptPair) → slice_get old i ≡ Some x → IsWithinBound bound x.path) → (i : ℕ) (x : KeptPair) → slice_get new i ≡
+        Some x → IsWithinBound bound x.path
     good-within old [] new g h i x e = h i x (subst (λ zs. slice_get zs i ≡ Some x) g e)
-    good-within old (link ∷ links) new g h i x e = good-within (old ++ g.0 ∷ []) links new g.2 (λ j y f. elim (get-either old g.0 j y f) [ inl k ↦ h j y k | inr k ↦ subst (λ (z : KeptPair). IsWithinBound bound z.path) k.1 g.1.near ]) i x e
+    good-within old (link ∷ links) new g h i x e = good-within (old ++ g.0 ∷ []) links new g.2
+        (λ j y f. elim (get-either old g.0 j y f) [
+          | inl k ↦ h j y k
+          | inr k ↦ subst
+              (λ (z : KeptPair). IsWithinBound bound z.path) k.1 g.1.near
+        ]) i x e
 
-    lists-within : (links : List Link) (listed : List KeptPair) → IsWithinBound bound [] → Lists p bound links listed → (i : ℕ) (x : KeptPair) → slice_get listed i ≡ Some x → IsWithinBound bound x.path
+    lists-within : (links : List Link) (listed : List KeptPair) → IsWithinBound bound [] → Lists p bound links listed →
+        (i : ℕ) (x : KeptPair) → slice_get listed i ≡ Some x → IsWithinBound bound x.path
     lists-within links listed empty l = good-within l.0 links listed l.2 (λ i x e. root i x e l.1.2)
       where
-        root : (i : ℕ) (x : KeptPair) → slice_get l.0 i ≡ Some x → ((l.1.0.formula ≡ falsum) × (l.0 ≡ [])) ⊎ ((l.1.0.formula ≢ falsum) × (l.0 ≡ record { node = l.1.0; path = [] } ∷ [])) → IsWithinBound bound x.path
+        root : (i : ℕ) (x : KeptPair) → slice_get l.0 i ≡ Some x → ((l.1.0.formula ≡ falsum) × (l.0 ≡ [])) ⊎
+            ((l.1.0.formula ≢ falsum) × (l.0 ≡ record { node = l.1.0; path = [] } ∷ [])) → IsWithinBound bound x.path
         root i x e (inl a) = let d : slice_get [] i ≡ Some x = subst (λ zs. slice_get zs i ≡ Some x) a.1 e in let b : ⊥ = cc in absurd b
         root i x e (inr a) =
             let node : KeptPair = record { node = l.1.0; path = [] } in
@@ -203,7 +242,8 @@ module _ (p : PlainProblem) where
     within-root outcome.Spent = omega arith
 
     listed : Lists p (bound_of n report.outcome) (links_of report.events) kept
-    listed = events-list (bound_of n report.outcome) report.events kept some-event r.told (λ j a k x m e. within-of report.outcome x.path a (r.near j a k x m e))
+    listed = events-list (bound_of n report.outcome) report.events kept some-event r.told
+        (λ j a k x m e. within-of report.outcome x.path a (r.near j a k x m e))
 
     module _ (k : ℕ) (x : KeptPair) (there : slice_get kept k ≡ Some x) where
       end : (pair_of p x.path ≡ Some x.node) × (x.node.formula ≢ falsum)
@@ -223,17 +263,20 @@ module _ (p : PlainProblem) where
       asked-short outcome.NoneWithin h m = m
       asked-short outcome.Spent h m = absurd h
 
-      no-farther : (bound : Option ℕ) (a : Action) (m : ℕ) (z : KeptPair) (y : Pair) → next_pair p x.node a ≡ Some y → slice_get kept m ≡ Some z → z.node ≡ y → IsNoFarther bound x.path z.path
+      no-farther : (bound : Option ℕ) (a : Action) (m : ℕ) (z : KeptPair) (y : Pair) → next_pair p x.node a ≡ Some y → slice_get kept m ≡
+          Some z → z.node ≡ y → IsNoFarther bound x.path z.path
       no-farther None a m z y e s q = tt
       no-farther (Some b) a m z y e s q =
           let d = r.shortest m z s in
           let is_pair : pair_of p (x.path ++ a ∷ []) ≡ Some z.node = pair-onward p x.path a x.node end.0 ∙ (e ∙ ap Some (sym q)) in
           let unpruned = (lists-end p (bound_of n report.outcome) (links_of report.events) kept listed m z s).1 in
-          let least : length z.path ≤ length (x.path ++ a ∷ []) = d.least (x.path ++ a ∷ []) ((walk-open p (x.path ++ a ∷ [])).1 (z.node, (walk-pair p (x.path ++ a ∷ []) z.node).1 (is_pair, unpruned))) is_pair in
+          let least : length z.path ≤ length (x.path ++ a ∷ []) = d.least (x.path ++ a ∷ [])
+          ((walk-open p (x.path ++ a ∷ [])).1 (z.node, (walk-pair p (x.path ++ a ∷ []) z.node).1 (is_pair, unpruned))) is_pair in
           omega (arith, length-snoc x.path a)
 
       stays : MustBeClosed (bound_of n report.outcome) x.path → (a : Action) → StaysInside p (bound_of n report.outcome) kept x a
-      stays m a y e = by_met (events-meet [] report.events kept k a x y r.told (r.arrivals k x a there (asked-short report.outcome r.none m) (next-steps p x.node a y e)) there e)
+      stays m a y e = by_met (events-meet [] report.events kept k a x y r.told
+          (r.arrivals k x a there (asked-short report.outcome r.none m) (next-steps p x.node a y e)) there e)
         where
           by_met : IsMet kept y → (y.formula ≡ falsum) ⊎ IsListedNear (bound_of n report.outcome) kept x.path y
           by_met (inl f) = inl f
@@ -241,7 +284,8 @@ module _ (p : PlainProblem) where
 
       is-right : IsRightNode p (bound_of n report.outcome) kept x
       is-right = record {
-        unaccepted = λ h. not-accepted report.outcome r.none (lists-within (bound_of n report.outcome) (links_of report.events) kept (within-root report.outcome) listed k x there) ((walk-accepted p x.path).1 (x.node, (walk-pair p x.path x.node).1 end, h));
+        unaccepted = λ h. not-accepted report.outcome r.none (lists-within (bound_of n report.outcome) (links_of report.events) kept
+            (within-root report.outcome) listed k x there) ((walk-accepted p x.path).1 (x.node, (walk-pair p x.path x.node).1 end, h));
         closed = stays;
       }
 
@@ -254,7 +298,8 @@ module _ (p : PlainProblem) where
 
 -- ---- links from events, one after another
 
-pub links-more : (es : List Event) (k : ℕ) (e : Event) → slice_get es k ≡ Some e → links_of (take (k + 1) es) ≡ links_of (take k es) ++ links_of (e ∷ [])
+pub links-more : (es : List Event) (k : ℕ) (e : Event) → slice_get es k ≡ Some e → links_of (take (k + 1) es) ≡ links_of (take k es) ++
+    links_of (e ∷ [])
 links-more es k e at = ap links_of (take-next es k e at) ∙ links-both (take k es) (e ∷ [])
   where
     links-both : (us vs : List Event) → links_of (us ++ vs) ≡ links_of us ++ links_of vs
@@ -266,7 +311,8 @@ links-more es k e at = ap links_of (take-next es k e at) ∙ links-both (take k 
     links-both (event.Pruned j a ∷ us) vs = links-both us vs
 
 -- the pairs that events start from are kept, so their numbers are small where few pairs are kept
-pub events-small : (p : PlainProblem) (old : List KeptPair) (es : List Event) (new : List KeptPair) (k : ℕ) (e : Event) → AreTrueEvents p old es new → slice_get es k ≡ Some e → length new < 2 ^ 32 → HasSmallStart e
+pub events-small : (p : PlainProblem) (old : List KeptPair) (es : List Event) (new : List KeptPair) (k : ℕ) (e : Event) →
+    AreTrueEvents p old es new → slice_get es k ≡ Some e → length new < 2 ^ 32 → HasSmallStart e
 events-small p old [] new k e t at few = let b : ⊥ = cc in absurd b
 events-small p old (f ∷ es) new (suc k) e t at few = events-small p t.0 es new k e t.2 at few
 events-small p old (f ∷ es) new zero e t at few = subst HasSmallStart (let d : f ≡ e = cc in d) (small f t.1)
@@ -275,7 +321,8 @@ events-small p old (f ∷ es) new zero e t at few = subst HasSmallStart (let d :
     small event.RootKept u = tt
     small event.RootPruned u = tt
     small (event.Kept j a m) u =
-        let l : j < length new = slice_get_within new j u.0 (events-stay p t.0 es new j u.0 t.2 (event-stays p old (event.Kept j a m) t.0 j u.0 u u.2)) in
+        let l : j < length new = slice_get_within new j u.0 (events-stay p t.0 es new j u.0 t.2
+        (event-stays p old (event.Kept j a m) t.0 j u.0 u u.2)) in
         omega arith
     small (event.Seen j a m) u = tt
     small (event.Pruned j a) u = tt

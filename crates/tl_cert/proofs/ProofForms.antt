@@ -32,13 +32,19 @@ pub record IsLinkOf (fs : FormTrees) (parts : ℤ × ℕ × FormTree) : Type 0 w
   pub elements : fs ≡ more_forms word (more_forms (integer parts.0 parts.1) (more_forms parts.2 no_form))
   pub call : is_call parts.2 ≡ true
 
-three-back : (word from action : FormTree) (parts : ℤ × ℕ × FormTree) → link_of_three word from action ≡ Some parts → (from ≡ integer parts.0 parts.1) × (action ≡ parts.2) × (is_call parts.2 ≡ true)
+three-back : (word from action : FormTree) (parts : ℤ × ℕ × FormTree) → link_of_three word from action ≡ Some parts →
+    (from ≡ integer parts.0 parts.1) × (action ≡ parts.2) × (is_call parts.2 ≡ true)
 three-back word (symbol text at) action parts e = let b : ⊥ = cc in absurd b
 three-back word (list fs at) action parts e = let b : ⊥ = cc in absurd b
 three-back word (integer j at) action parts e = by_tests (is_word (codes "pair") word) (is_call action) refl e
   where
-    by_tests : (v w : Bool) → is_call action ≡ w → (if v && w then Some (j, at, action) else None) ≡ Some parts → (integer j at ≡ integer parts.0 parts.1) × (action ≡ parts.2) × (is_call parts.2 ≡ true)
-    by_tests true true c q = let d : (j, at, action) ≡ parts = cc in (ap (λ (x : ℤ × ℕ × FormTree). integer x.0 x.1) d, ap (λ (x : ℤ × ℕ × FormTree). x.2) d, ap (λ (x : ℤ × ℕ × FormTree). is_call x.2) (sym d) ∙ c)
+    by_tests : (v w : Bool) → is_call action ≡ w → (if v && w then Some (j, at, action) else None) ≡ Some parts →
+        (integer j at ≡ integer parts.0 parts.1) × (action ≡ parts.2) × (is_call parts.2 ≡ true)
+    by_tests true true c q = let d : (j, at, action) ≡ parts = cc in (
+      ap (λ (x : ℤ × ℕ × FormTree). integer x.0 x.1) d,
+      ap (λ (x : ℤ × ℕ × FormTree). x.2) d,
+      ap (λ (x : ℤ × ℕ × FormTree). is_call x.2) (sym d) ∙ c,
+    )
     by_tests true false c q = let b : ⊥ = cc in absurd b
     by_tests false w c q = let b : ⊥ = cc in absurd b
 
@@ -48,7 +54,12 @@ link-back (more_forms word no_form) parts e = let b : ⊥ = cc in absurd b
 link-back (more_forms word (more_forms from no_form)) parts e = let b : ⊥ = cc in absurd b
 link-back (more_forms word (more_forms from (more_forms action no_form))) parts e =
     let h = three-back word from action parts e in
-    record { word = word; elements = ap (λ f. more_forms word (more_forms f (more_forms action no_form))) h.0 ∙ ap (λ f. more_forms word (more_forms (integer parts.0 parts.1) (more_forms f no_form))) h.1; call = h.2 }
+    record {
+      word = word;
+      elements = ap (λ f. more_forms word (more_forms f (more_forms action no_form))) h.0 ∙
+          ap (λ f. more_forms word (more_forms (integer parts.0 parts.1) (more_forms f no_form))) h.1;
+      call = h.2;
+    }
 link-back (more_forms word (more_forms from (more_forms action (more_forms f fs)))) parts e = let b : ⊥ = cc in absurd b
 
 -- the elements are a word and an integer
@@ -72,5 +83,9 @@ head-back (more_forms word no_form) bound e = absurd (by_test (is_word (codes "n
     by_test : (v : Bool) → (if v then Some None else None) ≡ Some (Some bound) → ⊥
     by_test true q = let b : ⊥ = cc in b
     by_test false q = let b : ⊥ = cc in b
-head-back (more_forms word (more_forms f no_form)) bound e = record { word = word; elements = ap (λ g. more_forms word (more_forms g no_form)) (bounded-back word f bound e) }
+head-back (more_forms word (more_forms f no_form)) bound e = record {
+  word = word;
+  elements =
+      ap (λ g. more_forms word (more_forms g no_form)) (bounded-back word f bound e);
+}
 head-back (more_forms word (more_forms f (more_forms g fs))) bound e = let b : ⊥ = cc in absurd b

@@ -83,7 +83,8 @@ pub record LooksByActing (p : PlainProblem) (bound : Option ℕ) (links : List L
 pub record IsNoneCause (p : PlainProblem) (bound : Option ℕ) (links : List Link) (path : List Action) (o : Operation) : Type 0 where
   pub executes : IsSome (states p path)
   pub past : IsPastRange o
-  pub looked : LooksAtRoot p path o ⊎ (LooksAfterAction p bound links path o ⊎ (LooksByIdling p bound links path o ⊎ LooksByActing p bound links path o))
+  pub looked : LooksAtRoot p path o ⊎ (LooksAfterAction p bound links path o ⊎
+      (LooksByIdling p bound links path o ⊎ LooksByActing p bound links path o))
 
 -- past range has its cause; want of memory has none
 abbrev pub IsNoneFaultOf : PlainProblem → Option ℕ → List Link → SearchFault → Type 0

@@ -1,5 +1,6 @@
 -- What the check of a proof knows on its way, and what its parts answer.
-use Rattle.std.specs.Prelude.{◌≡◌, ◌≤◌, ◌<◌, ◌+◌, ◌⊎◌, ℕ, List, [], ◌∷◌, ◌++◌, length, map, slice_get, Bool, true, false, Option, Some, None, nat_lt, nat_le}
+use Rattle.std.specs.Prelude.{◌≡◌, ◌≤◌, ◌<◌, ◌+◌, ◌⊎◌, ℕ, List, [], ◌∷◌, ◌++◌, length, map, slice_get, Bool, true, false, Option, Some}
+use Rattle.std.specs.Prelude.{None, nat_lt, nat_le}
 use Rattle.tl_syntax.specs.declared.action.Action.{Action}
 use Rattle.tl_terms.specs.Looked.{looked_by_progressing, looked_by_idling, looked_by_action}
 use Rattle.tl_terms.specs.Pairs.{IsPairAccepted}
@@ -36,7 +37,8 @@ IsActingCause p x path note = (path ≡ x.path) × ((b : Action) × Tells (looke
 
 -- after the action progressing the formula of the node looks at it
 abbrev pub IsProgressingCause : PlainProblem → KeptPair → Action → List Action → RangeNote → Type 0
-IsProgressingCause p x a path note = (path ≡ x.path ++ a ∷ []) × ((w : World) × (step p x.node.world a ≡ Some w) × Tells (looked_by_progressing p w x.node.formula) note)
+IsProgressingCause p x a path note = (path ≡ x.path ++ a ∷ []) × ((w : World) × (step p x.node.world a ≡ Some w) ×
+    Tells (looked_by_progressing p w x.node.formula) note)
 
 -- where the action is visited at the node, one of these is the cause
 abbrev pub IsVisitCause : PlainProblem → Action → KeptPair → SearchFault → Type 0

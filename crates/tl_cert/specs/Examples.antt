@@ -1,5 +1,6 @@
 -- Worked examples of proofs, and of what the forms of a proof file break and stand for.
-use Rattle.std.proofs.Common.{◌≡◌, ◌≢◌, ◌≤◌, ℕ, List, [], ◌∷◌, ◌++◌, ◌+◌, length, length-append, true≢false, Some, None, refl, sym, ap, ◌∙◌, inl, arith}
+use Rattle.std.proofs.Common.{◌≡◌, ◌≢◌, ◌≤◌, ℕ, List, [], ◌∷◌, ◌++◌, ◌+◌, length, length-append, true≢false, Some, None, refl, sym, ap, ◌∙◌}
+use Rattle.std.proofs.Common.{inl, arith}
 use Rattle.std.specs.Prelude.{pos, codes}
 use Rattle.std.specs.FinSet as set
 use Rattle.tl_sexpr.specs.Tree.{FormTree, symbol, integer, list, no_form, more_forms}
@@ -47,7 +48,16 @@ false_is_covered = record { listed = []; lists = ([], false_lists, refl); right 
 
 -- a link from the root is bad, since the root is not there
 false_has_no_link : (l : Link) → IsFirstBad hopeless None (l ∷ []) 1
-false_has_no_link l = record { before = 0; number = refl; link = l; is_link = refl; listed = []; good = ([], false_lists, refl); bad = λ next g. (let e = g.is_from in let b : ⊥ = cc in b) }
+false_has_no_link l = record {
+  before = 0;
+  number = refl;
+  link = l;
+  is_link = refl;
+  listed = [];
+  good = ([], false_lists, refl);
+  bad =
+      λ next g. (let e = g.is_from in let b : ⊥ = cc in b);
+}
 
 -- ---- a good link
 
@@ -68,7 +78,8 @@ press_leads = refl
 -- the worlds before and after it differ
 worlds_differ : nothing ≢ lit
 unfolding changed
-worlds_differ e = true≢false (sym (set.contains-insert key_total (set.from_list []) (0, []) (0, [])) ∙ (ap (λ w. has_fact w (0, [])) (sym e) ∙ has_fact-world [] [] (0, [])))
+worlds_differ e = true≢false (sym (set.contains-insert key_total (set.from_list []) (0, []) (0, [])) ∙
+    (ap (λ w. has_fact w (0, [])) (sym e) ∙ has_fact-world [] [] (0, [])))
 
 first_link_is_good : IsGood button None (root_node ∷ []) first_link lit_node
 first_link_is_good = record {
@@ -120,22 +131,28 @@ press_form at = list (more_forms (symbol (codes "press") (at + 1)) no_form) at
 
 -- `(pair J (press))` at this offset, J with one digit
 abbrev pub pair_form : ℕ → ℕ → FormTree
-pair_form j at = list (more_forms (symbol (codes "pair") (at + 1)) (more_forms (integer (pos j) (at + 6)) (more_forms (press_form (at + 8)) no_form))) at
+pair_form j at = list (more_forms (symbol (codes "pair") (at + 1)) (more_forms (integer (pos j) (at + 6))
+    (more_forms (press_form (at + 8)) no_form))) at
 
-heads_are_lawful : (names : List (List ℕ)) (operators : List Operator) → (proof_breaks names operators (more_forms none_head no_form) ≡ []) × (proof_breaks names operators (more_forms within_head no_form) ≡ [])
+heads_are_lawful : (names : List (List ℕ)) (operators : List Operator) →
+    (proof_breaks names operators (more_forms none_head no_form) ≡ []) ×
+    (proof_breaks names operators (more_forms within_head no_form) ≡ [])
 heads_are_lawful names operators = (refl, refl)
 
 heads_have_bounds : (length_bound_meant none_head ≡ None) × (length_bound_meant within_head ≡ Some 5)
 heads_have_bounds = (refl, refl)
 
 -- a file without any form, and one that begins with a link
-no_head : (names : List (List ℕ)) (operators : List Operator) → (first_break (proof_breaks names operators no_form) ≡ Some (Shape, 0)) × (first_break (proof_breaks names operators (more_forms (pair_form 0 0) no_form)) ≡ Some (Shape, 0))
+no_head : (names : List (List ℕ)) (operators : List Operator) → (first_break (proof_breaks names operators no_form) ≡ Some (Shape, 0)) ×
+    (first_break (proof_breaks names operators (more_forms (pair_form 0 0) no_form)) ≡ Some (Shape, 0))
 no_head names operators = (refl, refl)
 
 -- `(none) (pair 1 (press))`: pair 1 is not there yet
-no_pair : (names : List (List ℕ)) (operators : List Operator) → first_break (proof_breaks names operators (more_forms none_head (more_forms (pair_form 1 7) no_form))) ≡ Some (NoPair, 13)
+no_pair : (names : List (List ℕ)) (operators : List Operator) → first_break
+    (proof_breaks names operators (more_forms none_head (more_forms (pair_form 1 7) no_form))) ≡ Some (NoPair, 13)
 no_pair names operators = refl
 
 -- `(none-within 100001)`
-far_bound : first_break (proof_head_breaks (list (more_forms (symbol (codes "none-within") 1) (more_forms (integer (pos 100001) 13) no_form)) 0)) ≡ Some (Limit, 13)
+far_bound : first_break (proof_head_breaks (list (more_forms (symbol (codes "none-within") 1)
+    (more_forms (integer (pos 100001) 13) no_form)) 0)) ≡ Some (Limit, 13)
 far_bound = refl

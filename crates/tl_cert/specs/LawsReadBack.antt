@@ -40,5 +40,6 @@ pub record AreReadAsProof (names : List (List ℕ)) (operators : List Operator) 
 abbrev pub ProofsAreReadBack : Type 0
 ProofsAreReadBack =
     (names : List (List ℕ)) (operators : List Operator) (proof : Proof) →
-    AreDistinct names → Differ (map (λ o. o.name) operators) → AreWritable names operators proof.links → StartBefore 0 proof.links → length proof.links ≤ 100000 → IsBoundWritable proof.bound →
+    AreDistinct names → Differ (map (λ o. o.name) operators) → AreWritable names operators proof.links → StartBefore 0 proof.links →
+    length proof.links ≤ 100000 → IsBoundWritable proof.bound →
     AreReadAsProof names operators (proof_text names operators proof) proof

@@ -27,7 +27,8 @@ pub record IsGood (p : PlainProblem) (bound : Option ℕ) (listed : List KeptPai
 
 -- the node of number 0: that of the empty path, which is not listed where its formula is FALSE
 abbrev pub ListsRoot : PlainProblem → List KeptPair → Type 0
-ListsRoot p listed = (x : Pair) × (pair_of p [] ≡ Some x) × (((x.formula ≡ falsum) × (listed ≡ [])) ⊎ ((x.formula ≢ falsum) × (listed ≡ record { node = x; path = [] } ∷ [])))
+ListsRoot p listed = (x : Pair) × (pair_of p [] ≡ Some x) × (((x.formula ≡ falsum) × (listed ≡ [])) ⊎
+    ((x.formula ≢ falsum) × (listed ≡ record { node = x; path = [] } ∷ [])))
 
 -- after the first nodes the links are good, one after another, and in the end these nodes are
 -- listed

@@ -67,7 +67,8 @@ link_parts _ = None
 -- parts; a proof has at most as many links as a plan has actions
 abbrev pub link_breaks_at : List (List ℕ) → List Operator → ℕ → ℕ → Option (ℤ × ℕ × FormTree) → List Break
 link_breaks_at names operators before at None = (Shape, at) ∷ limit_breaks before at
-link_breaks_at names operators before at (Some parts) = limit_breaks before at ++ (breaks_if (not (is_within 0 before parts.0)) NoPair parts.1 ++ action_breaks names operators parts.2)
+link_breaks_at names operators before at (Some parts) = limit_breaks before at ++
+    (breaks_if (not (is_within 0 before parts.0)) NoPair parts.1 ++ action_breaks names operators parts.2)
 
 -- what a form breaks in the role of a link
 abbrev pub link_breaks : List (List ℕ) → List Operator → ℕ → FormTree → List Break

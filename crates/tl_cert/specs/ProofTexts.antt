@@ -19,7 +19,8 @@ head_line (Some n) = codes "(none-within " ++ (decimal n ++ codes ")\n")
 
 -- the line of a link
 abbrev pub link_line : List (List ℕ) → List Operator → Link → List ℕ
-link_line names operators link = codes "(pair " ++ (decimal link.from ++ (codes " " ++ (action_text names operators link.action ++ codes ")\n")))
+link_line names operators link = codes "(pair " ++ (decimal link.from ++
+    (codes " " ++ (action_text names operators link.action ++ codes ")\n")))
 
 -- a line for each link
 abbrev pub link_lines : List (List ℕ) → List Operator → List Link → List ℕ

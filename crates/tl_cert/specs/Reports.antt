@@ -63,6 +63,8 @@ pub record IsNoneReport (p : PlainProblem) (n : ℕ) (kept : List KeptPair) (rep
   pub none : IsRightNone p n report.outcome
   pub told : AreTrueEvents p [] report.events kept
   pub begins : BeginsAtRoot p report.events
-  pub near : (j : ℕ) (a : Action) (k : ℕ) (x : KeptPair) → Among (event.Kept j a k) report.events → slice_get kept j ≡ Some x → length x.path < n
+  pub near : (j : ℕ) (a : Action) (k : ℕ) (x : KeptPair) → Among (event.Kept j a k) report.events → slice_get kept j ≡ Some x →
+      length x.path < n
   pub shortest : (i : ℕ) (x : KeptPair) → slice_get kept i ≡ Some x → IsDistance p x.node (length x.path)
-  pub arrivals : (j : ℕ) (x : KeptPair) (a : Action) → slice_get kept j ≡ Some x → length x.path < n → IsTrue (is_some (step p x.node.world a)) → AtLeastOne (IsOf j a) report.events
+  pub arrivals : (j : ℕ) (x : KeptPair) (a : Action) → slice_get kept j ≡ Some x → length x.path < n →
+      IsTrue (is_some (step p x.node.world a)) → AtLeastOne (IsOf j a) report.events

@@ -1,5 +1,7 @@
 -- The labels of atoms and of bounds.
-use Rattle.std.proofs.Common.{◌≡◌, ◌≤◌, ◌<◌, ◌+◌, ◌-◌, ℕ, zero, suc, List, [], ◌∷◌, ◌++◌, map, drop, take, length, replicate, get_or, Bool, true, false, Option, Some, None, IfSome, Result, Ok, Err, IfOk, refl, sym, ap, ap₂, ◌∙◌, arith, append_assoc, append-nil, drop-cons, add-one}
+use Rattle.std.proofs.Common.{◌≡◌, ◌≤◌, ◌<◌, ◌+◌, ◌-◌, ℕ, zero, suc, List, [], ◌∷◌, ◌++◌, map, drop, take, length, replicate, get_or, Bool}
+use Rattle.std.proofs.Common.{true, false, Option, Some, None, IfSome, Result, Ok, Err, IfOk, refl, sym, ap, ap₂, ◌∙◌, arith, append_assoc}
+use Rattle.std.proofs.Common.{append-nil, drop-cons, add-one}
 use Rattle.std.specs.Prelude.{slice_get}
 use Rattle.std.proofs.lemmas.List.{length-replicate, get_or-replicate}
 use Rattle.std.proofs.lemmas.Option.{slice_get_read}
@@ -49,7 +51,8 @@ pub if-some : {A : Type 0} (P Q : A → Type 0) → ((x : A) → P x → Q x) �
 if-some P Q h None k = k
 if-some P Q h (Some x) k = h x k
 
-pub variable-value : (e : Assignment) (t : Term) (v : Var) (o : Option Value) → t ≡ term.Var v → o ≡ e v.slot → IfSome o (λ x. (w : World) → term_value w e (tree_of_term t) ≡ Some x)
+pub variable-value : (e : Assignment) (t : Term) (v : Var) (o : Option Value) → t ≡ term.Var v → o ≡ e v.slot →
+    IfSome o (λ x. (w : World) → term_value w e (tree_of_term t) ≡ Some x)
 unfolding term_value
 variable-value e t v None q h = tt
 variable-value e t v (Some x) q h = λ w. ap (term_value w e) (ap tree_of_term q ∙ tree-Var v) ∙ sym h
@@ -85,41 +88,54 @@ module _ (e : Assignment) (args : List Arg) where
   pub args-begun : (row : List Value) → row ≡ [] → ArgsRead 0 row
   args-begun row q = no-front (arg_values e args) ∙ ap (λ (r : List Value). prefixed r (arg_values e args)) (sym q)
 
-  at-arg : (i : ℕ) (x : Arg) (row : List Value) (o : Option Value) → i < length args → x ≡ get_or args i x → o ≡ arg_value e x → ArgsRead i row → arg_values e args ≡ prefixed row (prepend o (arg_values e (drop (i + 1) args)))
-  at-arg i x row o h q is so = so ∙ (ap (λ (xs : List Arg). prefixed row (arg_values e xs)) (opened args i x h q) ∙ ap (λ (v : Option Value). prefixed row (prepend v (arg_values e (drop (i + 1) args)))) (sym is))
+  at-arg : (i : ℕ) (x : Arg) (row : List Value) (o : Option Value) → i < length args → x ≡ get_or args i x → o ≡ arg_value e x →
+      ArgsRead i row → arg_values e args ≡ prefixed row (prepend o (arg_values e (drop (i + 1) args)))
+  at-arg i x row o h q is so = so ∙ (ap (λ (xs : List Arg). prefixed row (arg_values e xs)) (opened args i x h q) ∙
+      ap (λ (v : Option Value). prefixed row (prepend v (arg_values e (drop (i + 1) args)))) (sym is))
 
-  pub args-on : (i : ℕ) (x : Arg) (row new : List Value) (o : Option Value) (v : Value) → i < length args → x ≡ get_or args i x → o ≡ arg_value e x → o ≡ Some v → new ≡ row ++ v ∷ [] → ArgsRead i row → ArgsRead (i + 1) new
+  pub args-on : (i : ℕ) (x : Arg) (row new : List Value) (o : Option Value) (v : Value) → i < length args → x ≡ get_or args i x → o ≡
+      arg_value e x → o ≡ Some v → new ≡ row ++ v ∷ [] → ArgsRead i row → ArgsRead (i + 1) new
   args-on i x row new o v h q is some added so =
       at-arg i x row o h q is so
       ∙ (ap (λ (u : Option Value). prefixed row (prepend u (arg_values e (drop (i + 1) args)))) some
-      ∙ (one-front row v (arg_values e (drop (i + 1) args)) ∙ ap (λ (r : List Value). prefixed r (arg_values e (drop (i + 1) args))) (sym added)))
+      ∙ (one-front row v (arg_values e (drop (i + 1) args)) ∙ ap (λ (r : List Value). prefixed r (arg_values e (drop (i + 1) args)))
+      (sym added)))
 
-  pub args-stop : (i : ℕ) (x : Arg) (row : List Value) (o : Option Value) → i < length args → x ≡ get_or args i x → o ≡ arg_value e x → o ≡ None → ArgsRead i row → None ≡ arg_values e args
-  args-stop i x row o h q is none so = sym (at-arg i x row o h q is so ∙ ap (λ (u : Option Value). prefixed row (prepend u (arg_values e (drop (i + 1) args)))) none)
+  pub args-stop : (i : ℕ) (x : Arg) (row : List Value) (o : Option Value) → i < length args → x ≡ get_or args i x → o ≡ arg_value e x → o ≡
+      None → ArgsRead i row → None ≡ arg_values e args
+  args-stop i x row o h q is none so = sym (at-arg i x row o h q is so ∙
+      ap (λ (u : Option Value). prefixed row (prepend u (arg_values e (drop (i + 1) args)))) none)
 
   pub args-end : (i : ℕ) (row : List Value) → length args ≤ i → ArgsRead i row → Some row ≡ arg_values e args
-  args-end i row h so = ap (λ (r : List Value). Some r) (sym (append-nil row)) ∙ sym (so ∙ ap (λ (xs : List Arg). prefixed row (arg_values e xs)) (past args i h))
+  args-end i row h so = ap (λ (r : List Value). Some r) (sym (append-nil row)) ∙
+      sym (so ∙ ap (λ (xs : List Arg). prefixed row (arg_values e xs)) (past args i h))
 
 module _ (e : Assignment) (terms : Terms) (items : List Term) (is_items : items ≡ terms.items.items) where
   abbrev pub TermsRead : ℕ → List Value → Type 0
-  TermsRead i row = (w : World) → term_values w e (tree_of_terms terms) ≡ prefixed row (term_values w e (terms_of_list (map tree_of_term (drop i items))))
+  TermsRead i row = (w : World) → term_values w e (tree_of_terms terms) ≡
+      prefixed row (term_values w e (terms_of_list (map tree_of_term (drop i items))))
 
   pub terms-begun : (row : List Value) → row ≡ [] → TermsRead 0 row
   terms-begun row q w =
       ap (term_values w e) (trees-Terms terms ∙ ap (λ (ts : List Term). terms_of_list (map tree_of_term ts)) (sym is_items))
-      ∙ (no-front (term_values w e (terms_of_list (map tree_of_term items))) ∙ ap (λ (r : List Value). prefixed r (term_values w e (terms_of_list (map tree_of_term items)))) (sym q))
+      ∙ (no-front (term_values w e (terms_of_list (map tree_of_term items))) ∙
+      ap (λ (r : List Value). prefixed r (term_values w e (terms_of_list (map tree_of_term items)))) (sym q))
 
-  pub terms-on : (i : ℕ) (x : Term) (row new : List Value) (v : Value) → i < length items → x ≡ get_or items i x → ((w : World) → term_value w e (tree_of_term x) ≡ Some v) → new ≡ row ++ v ∷ [] → TermsRead i row → TermsRead (i + 1) new
+  pub terms-on : (i : ℕ) (x : Term) (row new : List Value) (v : Value) → i < length items → x ≡ get_or items i x →
+      ((w : World) → term_value w e (tree_of_term x) ≡ Some v) → new ≡ row ++ v ∷ [] → TermsRead i row → TermsRead (i + 1) new
   unfolding term_values
   terms-on i x row new v h q is added so w =
       let rest = term_values w e (terms_of_list (map tree_of_term (drop (i + 1) items))) in
       so w
       ∙ (ap (λ (ts : List Term). prefixed row (term_values w e (terms_of_list (map tree_of_term ts)))) (opened items i x h q)
-      ∙ (ap (λ (u : Option Value). prefixed row (prepend u rest)) (is w) ∙ (one-front row v rest ∙ ap (λ (r : List Value). prefixed r rest) (sym added))))
+      ∙ (ap (λ (u : Option Value). prefixed row (prepend u rest)) (is w) ∙
+      (one-front row v rest ∙ ap (λ (r : List Value). prefixed r rest) (sym added))))
 
-  pub terms-end : (i : ℕ) (row : List Value) → length items ≤ i → TermsRead i row → (w : World) → term_values w e (tree_of_terms terms) ≡ Some row
+  pub terms-end : (i : ℕ) (row : List Value) → length items ≤ i → TermsRead i row → (w : World) → term_values w e (tree_of_terms terms) ≡
+      Some row
   unfolding term_values
-  terms-end i row h so w = so w ∙ (ap (λ (ts : List Term). prefixed row (term_values w e (terms_of_list (map tree_of_term ts)))) (past items i h) ∙ ap (λ (r : List Value). Some r) (append-nil row))
+  terms-end i row h so w = so w ∙ (ap (λ (ts : List Term). prefixed row (term_values w e (terms_of_list (map tree_of_term ts))))
+      (past items i h) ∙ ap (λ (r : List Value). Some r) (append-nil row))
 
 -- ---- labels by histories
 
@@ -128,8 +144,11 @@ opened-at [] i w h = absurd (let z : ⊥ = cc in z)
 opened-at (v ∷ ws) zero w h = let q : v ≡ w = cc in ap (λ (u : World). u ∷ ws) q
 opened-at (v ∷ ws) (suc i) w h = opened-at ws i w h
 
-pub history-marks : (ws : List World) (h : History) (span : Span) (q : ℕ) (a : List Value) → IsWithin span (length ws) → IsFactHistory ws h → h.pred ≡ q → test_from (truth_from false (line_in h.lines (fact_with q a))) span.from (span.to - span.from) ≡ marks_in (fact_ahead (q, a)) ws span
-history-marks ws h span q a within so pred = test_from-marks (truth_from false (line_in h.lines (fact_with q a))) (fact_ahead (q, a)) ws span within (λ i l. (
+pub history-marks : (ws : List World) (h : History) (span : Span) (q : ℕ) (a : List Value) → IsWithin span (length ws) →
+    IsFactHistory ws h → h.pred ≡ q → test_from (truth_from false (line_in h.lines (fact_with q a))) span.from (span.to - span.from) ≡
+    marks_in (fact_ahead (q, a)) ws span
+history-marks ws h span q a within so pred = test_from-marks (truth_from false (line_in h.lines (fact_with q a)))
+    (fact_ahead (q, a)) ws span within (λ i l. (
     let v = there-is ws i l in
     ap (λ (k : ℕ). truth_from false (line_in h.lines (fact_with k a)) i) (sym pred)
     ∙ (so.tell a i v.0 l v.1 ∙ (ap (λ (k : ℕ). has_fact v.0 (k, a)) pred ∙ sym (ap (fact_ahead (q, a)) (opened-at ws i v.0 v.1))))
@@ -138,11 +157,13 @@ history-marks ws h span q a within so pred = test_from-marks (truth_from false (
 pub history-known : (along : Along) (h : History) → IsAlong along → Among h along.histories.now → IsFactHistory (states_along along) h
 history-known along h is m = each-among (IsFactHistory (states_along along)) along.histories.now h is.histories m
 
-pub marks_in-agree : (t u : Ahead) → ((s : List World) → t s ≡ u s) → (ws : List World) (span : Span) → marks_in t ws span ≡ marks_in u ws span
+pub marks_in-agree : (t u : Ahead) → ((s : List World) → t s ≡ u s) → (ws : List World) (span : Span) → marks_in t ws span ≡
+    marks_in u ws span
 marks_in-agree t u h ws span = ap (take (span.to - span.from)) (marks-agree_all t u h (drop span.from ws))
 
 module _ (p : Course) (e : Assignment) (ws : List World) (span : Span) where
-  pub atom-marks : (q : ℕ) (ts : TermTrees) (row : List Value) → ((w : World) → term_values w e ts ≡ Some row) → marks_in (fact_ahead (q, row)) ws span ≡ marks_in (true_ahead p e (atom q ts)) ws span
+  pub atom-marks : (q : ℕ) (ts : TermTrees) (row : List Value) → ((w : World) → term_values w e ts ≡ Some row) →
+      marks_in (fact_ahead (q, row)) ws span ≡ marks_in (true_ahead p e (atom q ts)) ws span
   unfolding true_ahead state_true situation_of
   atom-marks q ts row h = marks_in-agree (fact_ahead (q, row)) (true_ahead p e (atom q ts)) agree ws span
     where
@@ -150,7 +171,8 @@ module _ (p : Course) (e : Assignment) (ws : List World) (span : Span) where
       agree [] = refl
       agree (w ∷ vs) = ap (fact_in w q) (sym (h w))
 
-  pub fact_bound-marks : (q : ℕ) (xs : List Arg) (row : List Value) → Some row ≡ arg_values e xs → marks_in (fact_ahead (q, row)) ws span ≡ marks_in (bound_ahead p.problem e (bound.Fact q xs)) ws span
+  pub fact_bound-marks : (q : ℕ) (xs : List Arg) (row : List Value) → Some row ≡ arg_values e xs → marks_in (fact_ahead (q, row)) ws span ≡
+      marks_in (bound_ahead p.problem e (bound.Fact q xs)) ws span
   unfolding bound_true situation_of
   fact_bound-marks q xs row h = marks_in-agree (fact_ahead (q, row)) (bound_ahead p.problem e (bound.Fact q xs)) agree ws span
     where
@@ -159,16 +181,20 @@ module _ (p : Course) (e : Assignment) (ws : List World) (span : Span) where
       agree (w ∷ vs) = ap (fact_in w q) h
 
 -- the same label everywhere
-pub same-marks : (ws : List World) (span : Span) (t : Ahead) (b : Bool) → IsWithin span (length ws) → ((w : World) (vs : List World) → t (w ∷ vs) ≡ b) → replicate (span.to - span.from) b ≡ marks_in t ws span
-same-marks ws span t b within h = marks_in-by t ws span within (replicate (span.to - span.from) b) (length-replicate (span.to - span.from) b) (λ k l. (
+pub same-marks : (ws : List World) (span : Span) (t : Ahead) (b : Bool) → IsWithin span (length ws) →
+    ((w : World) (vs : List World) → t (w ∷ vs) ≡ b) → replicate (span.to - span.from) b ≡ marks_in t ws span
+same-marks ws span t b within h = marks_in-by t ws span within (replicate (span.to - span.from) b)
+    (length-replicate (span.to - span.from) b) (λ k l. (
     let order = within.order in
     let room = within.within in
     let v = there-is ws (span.from + k) (omega arith) in
-    get_or-replicate (span.to - span.from) k b false l ∙ sym (ap t (opened-at ws (span.from + k) v.0 v.1) ∙ h v.0 (drop (suc (span.from + k)) ws))
+    get_or-replicate (span.to - span.from) k b false l ∙ sym (ap t (opened-at ws (span.from + k) v.0 v.1) ∙
+    h v.0 (drop (suc (span.from + k)) ws))
     ))
 
 -- what the goal list says is the same in every world
-goal-same : (p : PlainProblem) (e : Assignment) (b : Bound) (w v : World) → IsOverGoal b → bound_true (situation_of p w) e b ≡ bound_true (situation_of p v) e b
+goal-same : (p : PlainProblem) (e : Assignment) (b : Bound) (w v : World) → IsOverGoal b → bound_true (situation_of p w) e b ≡
+    bound_true (situation_of p v) e b
 unfolding bound_true situation_of
 goal-same p e (bound.Fact q xs) w v g = absurd g
 goal-same p e (bound.Place f xs x) w v g = absurd g
@@ -176,13 +202,16 @@ goal-same p e (bound.GoalFact q xs) w v g = refl
 goal-same p e (bound.GoalPlace f xs x) w v g = refl
 goal-same p e (bound.GoalNot q xs) w v g = refl
 
-pub goal-marks : (p : PlainProblem) (e : Assignment) (b : Bound) (ws : List World) (span : Span) (w : World) (truth : Bool) → IsOverGoal b → IsWithin span (length ws) → truth ≡ bound_true (situation_of p w) e b → replicate (span.to - span.from) truth ≡ marks_in (bound_ahead p e b) ws span
+pub goal-marks : (p : PlainProblem) (e : Assignment) (b : Bound) (ws : List World) (span : Span) (w : World) (truth : Bool) → IsOverGoal b →
+    IsWithin span (length ws) → truth ≡ bound_true (situation_of p w) e b → replicate (span.to - span.from) truth ≡
+    marks_in (bound_ahead p e b) ws span
 goal-marks p e b ws span w truth g within q = same-marks ws span (bound_ahead p e b) truth within (λ v vs. goal-same p e b v w g ∙ sym q)
 
 pub goal-guides : (p : PlainProblem) (ws : List World) (b : Bound) (w : World) → IsOverGoal b → Guides p ws b w
 goal-guides p ws b w g = λ e v m h. goal-same p e b w v g ∙ h
 
-pub fact-guides : (p : PlainProblem) (ws : List World) (q : ℕ) (xs : List Arg) (h : History) → IsFactHistory ws h → h.pred ≡ q → Guides p ws (bound.Fact q xs) h.ever
+pub fact-guides : (p : PlainProblem) (ws : List World) (q : ℕ) (xs : List Arg) (h : History) → IsFactHistory ws h → h.pred ≡ q →
+    Guides p ws (bound.Fact q xs) h.ever
 unfolding bound_true situation_of
 fact-guides p ws q xs h so pred = λ e w m t. by (arg_values e xs) w m t
   where
@@ -193,7 +222,8 @@ fact-guides p ws q xs h so pred = λ e w m t. by (arg_values e xs) w m t
 -- ---- labels that are added one after another
 
 pub labels-end : (t : ℕ → Bool) (whole labels : List Bool) (i to : ℕ) → to ≤ i → labels ++ test_from t i (to - i) ≡ whole → labels ≡ whole
-labels-end t whole labels i to h so = sym (append-nil labels) ∙ (ap (λ (n : ℕ). labels ++ test_from t i n) (let none : 0 ≡ to - i = omega arith in none) ∙ so)
+labels-end t whole labels i to h so = sym (append-nil labels) ∙ (ap (λ (n : ℕ). labels ++ test_from t i n)
+    (let none : 0 ≡ to - i = omega arith in none) ∙ so)
 
 -- the first world from a position on
 pub world-here : (ws : List World) (i : ℕ) (w : World) → i < length ws → w ≡ get_or ws i w → drop i ws ≡ w ∷ drop (suc i) ws

@@ -1,5 +1,6 @@
 -- Where a label is true for the first time, and for the last time.
-use Rattle.std.proofs.Common.{◌≡◌, ◌≤◌, ◌<◌, ◌+◌, ◌-◌, inl, inr, ℕ, List, ◌++◌, drop, length, replicate, get_or, Bool, true, false, refl, sym, ap, ◌∙◌, arith, length-append}
+use Rattle.std.proofs.Common.{◌≡◌, ◌≤◌, ◌<◌, ◌+◌, ◌-◌, inl, inr, ℕ, List, ◌++◌, drop, length, replicate, get_or, Bool, true, false, refl}
+use Rattle.std.proofs.Common.{sym, ap, ◌∙◌, arith, length-append}
 use Rattle.std.proofs.lemmas.Bool.{cases_lt}
 use Rattle.std.proofs.lemmas.List.{length-replicate, get_or-drop, drop-drop, get_or_past}
 use Rattle.tl_check.proofs.CutLaws.{drop-whole_run}
@@ -21,12 +22,20 @@ module _ (xs : List Run) (i at : ℕ) (r : Run) (h : i < length xs) (q : r ≡ g
   label-in k l m =
       ap (λ (j : ℕ). get_or (spread xs) j false) (let e : k ≡ at + (k - at) = omega arith in e)
       ∙ (sym (get_or-drop at (spread xs) (k - at) false)
-      ∙ (ap (λ (us : List Bool). get_or us (k - at) false) opened ∙ at-in r.count (k - at) r.truth (spread (drop (i + 1) xs)) (omega arith)))
+      ∙ (ap (λ (us : List Bool). get_or us (k - at) false) opened ∙ at-in r.count (k - at) r.truth (spread (drop (i + 1) xs))
+      (omega arith)))
 
   pub passed-on : Passed xs (i + 1) (at + r.count)
   passed-on = record {
-    rest = sym (drop-drop r.count at (spread xs)) ∙ (ap (drop r.count) opened ∙ drop-whole_run r.count r.count r.truth (spread (drop (i + 1) xs)) refl);
-    size = omega (arith, passed.size, ap length (spread-at xs i r h q), length-append (replicate r.count r.truth) (spread (drop (i + 1) xs)), length-replicate r.count r.truth);
+    rest = sym (drop-drop r.count at (spread xs)) ∙ (ap (drop r.count) opened ∙
+        drop-whole_run r.count r.count r.truth (spread (drop (i + 1) xs)) refl);
+    size = omega (
+      arith,
+      passed.size,
+      ap length (spread-at xs i r h q),
+      length-append (replicate r.count r.truth) (spread (drop (i + 1) xs)),
+      length-replicate r.count r.truth,
+    );
   }
 
   pub fits : at + r.count ≤ length (spread xs)
@@ -38,14 +47,16 @@ module _ (xs : List Run) (i at : ℕ) (r : Run) (h : i < length xs) (q : r ≡ g
   pub true-here : r.truth ≡ true → get_or (spread xs) at false ≡ true
   true-here t = label-in at (omega arith) (let some = r.some in omega arith) ∙ t
 
-  up-to_by : (t : Bool) (end next : ℕ) → r.truth ≡ t → end ≤ at → ((k : ℕ) → end ≤ k → k < at → get_or (spread xs) k false ≡ false) → (r.truth ≡ true → next ≡ at + r.count) → (r.truth ≡ false → next ≡ end)
+  up-to_by : (t : Bool) (end next : ℕ) → r.truth ≡ t → end ≤ at → ((k : ℕ) → end ≤ k → k < at → get_or (spread xs) k false ≡ false) →
+      (r.truth ≡ true → next ≡ at + r.count) → (r.truth ≡ false → next ≡ end)
       → (next ≤ at + r.count) × ((k : ℕ) → next ≤ k → k < at + r.count → get_or (spread xs) k false ≡ false)
   up-to_by true end next e order none moved stays = let m = moved e in (omega (arith, m), λ k l n. absurd (omega (arith, m)))
   up-to_by false end next e order none moved stays =
       let m = stays e in
       (omega (arith, m), λ k l n. elim (cases_lt k at) [ inl s ↦ none k (omega (arith, m)) s | inr s ↦ label-in k s n ∙ e ])
 
-  pub up-to_more : (end next : ℕ) → end ≤ at → ((k : ℕ) → end ≤ k → k < at → get_or (spread xs) k false ≡ false) → (r.truth ≡ true → next ≡ at + r.count) → (r.truth ≡ false → next ≡ end)
+  pub up-to_more : (end next : ℕ) → end ≤ at → ((k : ℕ) → end ≤ k → k < at → get_or (spread xs) k false ≡ false) →
+      (r.truth ≡ true → next ≡ at + r.count) → (r.truth ≡ false → next ≡ end)
       → (next ≤ at + r.count) × ((k : ℕ) → next ≤ k → k < at + r.count → get_or (spread xs) k false ≡ false)
   up-to_more end next order none moved stays = up-to_by r.truth end next refl order none moved stays
 
@@ -57,4 +68,8 @@ module _ (xs : List Run) (i at : ℕ) (h : length xs ≤ i) (passed : Passed xs 
   false-everywhere none k = elim (cases_lt k at) [ inl l ↦ none k l | inr l ↦ get_or_past (spread xs) k false (omega (arith, all-passed)) ]
 
   pub false-from : (end : ℕ) → ((k : ℕ) → end ≤ k → k < at → get_or (spread xs) k false ≡ false) → IsFalseFrom (spread xs) end
-  false-from end none k m = elim (cases_lt k at) [ inl l ↦ none k m l | inr l ↦ get_or_past (spread xs) k false (omega (arith, all-passed)) ]
+  false-from end none k m = elim (cases_lt k at) [
+    | inl l ↦ none k m l
+    | inr l ↦ get_or_past (spread xs) k false
+        (omega (arith, all-passed))
+  ]

@@ -1,5 +1,6 @@
 -- The states of a plan, one action after another.
-use Rattle.std.proofs.Common.{◌≡◌, ◌≤◌, ◌<◌, ◌+◌, ℕ, zero, suc, List, [], ◌∷◌, ◌++◌, take, drop, length, get_or, Option, Some, None, refl, sym, ap, ◌∙◌, subst, arith, length-take}
+use Rattle.std.proofs.Common.{◌≡◌, ◌≤◌, ◌<◌, ◌+◌, ℕ, zero, suc, List, [], ◌∷◌, ◌++◌, take, drop, length, get_or, Option, Some, None, refl}
+use Rattle.std.proofs.Common.{sym, ap, ◌∙◌, subst, arith, length-take}
 use Rattle.std.proofs.lemmas.List.{take_more}
 use Rattle.tl_check.specs.Verdicts.{StopsAt, IsPastInAction}
 use Rattle.tl_eval.specs.Notes.{Tells}
@@ -31,21 +32,26 @@ split (b ∷ plan) (suc k) a l r = ap (λ (us : List Action). b ∷ us) (split p
 
 module _ (p : PlainProblem) where
   -- one more action that has a step
-  more : (a : Action) (v w : World) (o : Option World) (front : List Action) (ws : List World) → states_from p o front ≡ Some ws → w ≡ get_or ws (length front) w → step p w a ≡ Some v → states_from p o (front ++ a ∷ []) ≡ Some (ws ++ v ∷ [])
+  more : (a : Action) (v w : World) (o : Option World) (front : List Action) (ws : List World) → states_from p o front ≡ Some ws → w ≡
+      get_or ws (length front) w → step p w a ≡ Some v → states_from p o (front ++ a ∷ []) ≡ Some (ws ++ v ∷ [])
   unfolding states_from
   more a v w None front ws e r s = absurd (let z : ⊥ = cc in z)
   more a v w (Some u) [] ws e r s =
       let one : u ∷ [] ≡ ws = cc in
       let here : w ≡ u = r ∙ ap (λ (us : List World). get_or us 0 w) (sym one) in
-      ap (λ (x : Option World). then_states u (states_from p x [])) (ap (λ (x : World). step p x a) (sym here) ∙ s) ∙ ap (λ (us : List World). Some (us ++ v ∷ [])) one
+      ap (λ (x : Option World). then_states u (states_from p x [])) (ap (λ (x : World). step p x a) (sym here) ∙ s) ∙
+      ap (λ (us : List World). Some (us ++ v ∷ [])) one
   more a v w (Some u) (b ∷ front) ws e r s = by (states_from p (step p u b) front) refl (λ us q t. more a v w (step p u b) front us q t s) e
     where
-      by : (o : Option (List World)) → states_from p (step p u b) front ≡ o → ((us : List World) → states_from p (step p u b) front ≡ Some us → w ≡ get_or us (length front) w → states_from p (step p u b) (front ++ a ∷ []) ≡ Some (us ++ v ∷ []))
+      by : (o : Option (List World)) → states_from p (step p u b) front ≡ o →
+          ((us : List World) → states_from p (step p u b) front ≡ Some us → w ≡ get_or us (length front) w →
+          states_from p (step p u b) (front ++ a ∷ []) ≡ Some (us ++ v ∷ []))
           → then_states u o ≡ Some ws → then_states u (states_from p (step p u b) (front ++ a ∷ [])) ≡ Some (ws ++ v ∷ [])
       by None q below h = absurd (let z : ⊥ = cc in z)
       by (Some us) q below h =
           let all : u ∷ us ≡ ws = cc in
-          ap (then_states u) (below us q (r ∙ ap (λ (xs : List World). get_or xs (suc (length front)) w) (sym all))) ∙ ap (λ (xs : List World). Some (xs ++ v ∷ [])) all
+          ap (then_states u) (below us q (r ∙ ap (λ (xs : List World). get_or xs (suc (length front)) w) (sym all))) ∙
+          ap (λ (xs : List World). Some (xs ++ v ∷ [])) all
 
   -- as many states as actions, and one more
   count : (o : Option World) (plan : List Action) (ws : List World) → states_from p o plan ≡ Some ws → length ws ≡ suc (length plan)
@@ -54,7 +60,9 @@ module _ (p : PlainProblem) where
   count (Some u) [] ws e = let one : u ∷ [] ≡ ws = cc in sym (ap length one)
   count (Some u) (b ∷ plan) ws e = by (states_from p (step p u b) plan) refl (λ us q. count (step p u b) plan us q) e
     where
-      by : (o : Option (List World)) → states_from p (step p u b) plan ≡ o → ((us : List World) → states_from p (step p u b) plan ≡ Some us → length us ≡ suc (length plan)) → then_states u o ≡ Some ws → length ws ≡ suc (suc (length plan))
+      by : (o : Option (List World)) → states_from p (step p u b) plan ≡ o →
+          ((us : List World) → states_from p (step p u b) plan ≡ Some us → length us ≡ suc (length plan)) → then_states u o ≡ Some ws →
+          length ws ≡ suc (suc (length plan))
       by None q below h = absurd (let z : ⊥ = cc in z)
       by (Some us) q below h = let all : u ∷ us ≡ ws = cc in sym (ap length all) ∙ ap suc (below us q)
 
@@ -62,7 +70,8 @@ module _ (p : PlainProblem) where
   states-count plan ws e = count (Some p.first) plan ws e
 
   -- the first actions have the first states
-  front : (o : Option World) (plan : List Action) (k : ℕ) (ws : List World) → states_from p o plan ≡ Some ws → states_from p o (take k plan) ≡ Some (take (suc k) ws)
+  front : (o : Option World) (plan : List Action) (k : ℕ) (ws : List World) → states_from p o plan ≡ Some ws →
+      states_from p o (take k plan) ≡ Some (take (suc k) ws)
   unfolding states_from
   front None plan k ws e = absurd (let z : ⊥ = cc in z)
   front (Some u) [] zero ws e = let one : u ∷ [] ≡ ws = cc in ap (λ (us : List World). Some (take 1 us)) one
@@ -74,25 +83,32 @@ module _ (p : PlainProblem) where
       by (Some us) h = let all : u ∷ us ≡ ws = cc in ap (λ (vs : List World). Some (take 1 vs)) all
   front (Some u) (b ∷ plan) (suc k) ws e = by (states_from p (step p u b) plan) refl (λ us q. front (step p u b) plan k us q) e
     where
-      by : (o : Option (List World)) → states_from p (step p u b) plan ≡ o → ((us : List World) → states_from p (step p u b) plan ≡ Some us → states_from p (step p u b) (take k plan) ≡ Some (take (suc k) us)) → then_states u o ≡ Some ws → then_states u (states_from p (step p u b) (take k plan)) ≡ Some (take (suc (suc k)) ws)
+      by : (o : Option (List World)) → states_from p (step p u b) plan ≡ o →
+          ((us : List World) → states_from p (step p u b) plan ≡ Some us → states_from p (step p u b) (take k plan) ≡
+          Some (take (suc k) us)) → then_states u o ≡ Some ws → then_states u (states_from p (step p u b) (take k plan)) ≡
+          Some (take (suc (suc k)) ws)
       by None q below h = absurd (let z : ⊥ = cc in z)
-      by (Some us) q below h = let all : u ∷ us ≡ ws = cc in ap (then_states u) (below us q) ∙ ap (λ (vs : List World). Some (take (suc (suc k)) vs)) all
+      by (Some us) q below h = let all : u ∷ us ≡ ws = cc in ap (then_states u) (below us q) ∙
+          ap (λ (vs : List World). Some (take (suc (suc k)) vs)) all
 
-  pub states-front : (plan : List Action) (k : ℕ) (ws : List World) → states p plan ≡ Some ws → states p (take k plan) ≡ Some (take (suc k) ws)
+  pub states-front : (plan : List Action) (k : ℕ) (ws : List World) → states p plan ≡ Some ws → states p (take k plan) ≡
+      Some (take (suc k) ws)
   states-front plan k ws e = front (Some p.first) plan k ws e
 
   pub states-begun : (plan : List Action) (ws : List World) → ws ≡ p.first ∷ [] → states p (take 0 plan) ≡ Some ws
   unfolding states_from
   states-begun plan ws q = ap (λ (us : List World). Some us) (sym q)
 
-  module _ (plan : List Action) (k : ℕ) (ws : List World) (a : Action) (w : World) (so_far : states p (take k plan) ≡ Some ws) (l : k < length plan) (r : a ≡ get_or plan k a) (s : w ≡ get_or ws k w) where
+  module _ (plan : List Action) (k : ℕ) (ws : List World) (a : Action) (w : World) (so_far : states p (take k plan) ≡ Some ws)
+      (l : k < length plan) (r : a ≡ get_or plan k a) (s : w ≡ get_or ws k w) where
     front-length : length (take k plan) ≡ k
     front-length = omega (arith, length-take k plan)
 
     pub states-on : (v : World) (new : List World) → step p w a ≡ Some v → new ≡ ws ++ v ∷ [] → states p (take (k + 1) plan) ≡ Some new
     states-on v new h q =
         ap (states p) (take_more plan k a l ∙ ap (λ (b : Action). take k plan ++ b ∷ []) (sym r))
-        ∙ (more a v w (Some p.first) (take k plan) ws so_far (s ∙ ap (λ (i : ℕ). get_or ws i w) (sym front-length)) h ∙ ap (λ (us : List World). Some us) (sym q))
+        ∙ (more a v w (Some p.first) (take k plan) ws so_far (s ∙ ap (λ (i : ℕ). get_or ws i w) (sym front-length)) h ∙
+        ap (λ (us : List World). Some us) (sym q))
 
     -- the states so far, with the last of them
     pub record Reached : Type 0 where
@@ -106,7 +122,13 @@ module _ (p : PlainProblem) where
       where
         by : (us : List World) → states p (take k plan) ≡ Some us → w ≡ get_or us k w → length us ≡ suc (length (take k plan)) → Reached
         by [] e t n = absurd (omega arith)
-        by (u ∷ us) e t n = record { from = u; after = us; executes = e; last = last-is u us w ∙ (ap (λ (i : ℕ). get_or (u ∷ us) i w) (let m : length us ≡ k = omega (arith, front-length) in m) ∙ sym t) }
+        by (u ∷ us) e t n = record {
+          from = u;
+          after = us;
+          executes = e;
+          last = last-is u us w ∙
+              (ap (λ (i : ℕ). get_or (u ∷ us) i w) (let m : length us ≡ k = omega (arith, front-length) in m) ∙ sym t);
+        }
 
     pub stops-here : (n : ℕ) → n ≡ k + 1 → step p w a ≡ None → StopsAt p plan n
     stops-here n q h = record {
@@ -140,5 +162,6 @@ module _ (p : PlainProblem) where
   whole (a ∷ plan) zero h = absurd (omega arith)
   whole (a ∷ plan) (suc k) h = ap (λ (us : List Action). a ∷ us) (whole plan k (omega arith))
 
-  pub states-end : (plan : List Action) (k : ℕ) (ws : List World) → length plan ≤ k → states p (take k plan) ≡ Some ws → states p plan ≡ Some ws
+  pub states-end : (plan : List Action) (k : ℕ) (ws : List World) → length plan ≤ k → states p (take k plan) ≡ Some ws → states p plan ≡
+      Some ws
   states-end plan k ws h e = ap (states p) (sym (whole plan k h)) ∙ e

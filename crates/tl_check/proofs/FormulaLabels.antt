@@ -1,5 +1,6 @@
 -- The labels of a formula come from those of its parts.
-use Rattle.std.proofs.Common.{◌≡◌, ◌≤◌, ◌<◌, ◌+◌, ◌-◌, ◌⊎◌, ◌++◌, ℕ, zero, suc, List, [], ◌∷◌, map, take, drop, length, get_or, Bool, false, not, Ok, Err, Result, IsErrAnd, Box, Global, inl, inr, refl, sym, ap, ap₂, ◌∙◌, subst, arith, length-drop}
+use Rattle.std.proofs.Common.{◌≡◌, ◌≤◌, ◌<◌, ◌+◌, ◌-◌, ◌⊎◌, ◌++◌, ℕ, zero, suc, List, [], ◌∷◌, map, take, drop, length, get_or, Bool, false}
+use Rattle.std.proofs.Common.{not, Ok, Err, Result, IsErrAnd, Box, Global, inl, inr, refl, sym, ap, ap₂, ◌∙◌, subst, arith, length-drop}
 use Rattle.tl_check.proofs.AtomLaws.{marks_in-agree}
 use Rattle.tl_check.proofs.LabelLaws.{marks-not, word-looks, word-first, round-on, made-here, until-here}
 use Rattle.tl_check.proofs.LookedLaws.{comes-later, not-looked, word-looked, until-first-looked, until-second-looked, part-looked}
@@ -19,7 +20,9 @@ use Rattle.tl_eval.specs.Notes.{operation_of}
 use Rattle.tl_syntax.specs.declared.junction.Junction.{Junction}
 use Rattle.tl_syntax.specs.declared.junction.Junction.TheVariants.{All, Any}
 use Rattle.tl_syntax.specs.Junctions.{joined, quantified}
-use Rattle.tl_syntax.proofs.FormulaTrees.{tree-True, tree-False, tree-Atom, tree-Defined, tree-Compare, tree-GoalFact, tree-GoalPlace, tree-GoalNot, tree-Not, tree-And, tree-Or, tree-ForAll, tree-Exists, tree-Next, tree-Always, tree-Eventually, tree-Until, tree-Within, tree-During, trees-Formulas}
+use Rattle.tl_syntax.proofs.FormulaTrees.{tree-True, tree-False, tree-Atom, tree-Defined, tree-Compare, tree-GoalFact, tree-GoalPlace}
+use Rattle.tl_syntax.proofs.FormulaTrees.{tree-GoalNot, tree-Not, tree-And, tree-Or, tree-ForAll, tree-Exists, tree-Next, tree-Always}
+use Rattle.tl_syntax.proofs.FormulaTrees.{tree-Eventually, tree-Until, tree-Within, tree-During, trees-Formulas}
 use Rattle.tl_syntax.specs.declared.bound.Bound.{Bound}
 use Rattle.tl_syntax.specs.declared.formula.Formula.{Formula}
 use Rattle.tl_syntax.specs.declared.formula.Formula.TheVariants as formula
@@ -35,7 +38,8 @@ use Rattle.tl_syntax.specs.Lists.{Among}
 use Rattle.tl_syntax.specs.Signature.{Signature}
 use Rattle.tl_syntax.specs.StateFormulas.{IsState}
 use Rattle.tl_syntax.specs.TreeOfFormula.{tree_of_formula, tree_of_formulas}
-use Rattle.tl_syntax.specs.Trees.{FormulaTree, FormulaTrees, negation, conjunction, disjunction, for_all, for_some, next, until, formulas_of_list}
+use Rattle.tl_syntax.specs.Trees.{FormulaTree, FormulaTrees, negation, conjunction, disjunction, for_all, for_some, next, until}
+use Rattle.tl_syntax.specs.Trees.{formulas_of_list}
 use Rattle.tl_terms.specs.Operations.{Operation}
 use Rattle.tl_terms.specs.World.{World}
 
@@ -68,7 +72,10 @@ state-GoalNot f p xs q = subst IsState (sym (ap tree_of_formula q ∙ tree-GoalN
 -- ---- a note of a part
 
 -- a note of a part, in a span whose positions come at the first one here or after it, is one of the whole
-pub noted-by : (p : Course) (ws : List World) (span inner : Span) (e d : Assignment) (whole part : FormulaTree) → ((k : ℕ) → ComesAt p ws inner.from k → ComesAt p ws span.from k) → ((o : Operation) (k : ℕ) → Among o (looked_at p ws k d part) → Among o (looked_at p ws k e whole)) → (x : CheckFault) → AreLabels p ws inner d part (Err x) → AreLabels p ws span e whole (Err x)
+pub noted-by : (p : Course) (ws : List World) (span inner : Span) (e d : Assignment) (whole part : FormulaTree) →
+    ((k : ℕ) → ComesAt p ws inner.from k → ComesAt p ws span.from k) →
+    ((o : Operation) (k : ℕ) → Among o (looked_at p ws k d part) → Among o (looked_at p ws k e whole)) → (x : CheckFault) →
+    AreLabels p ws inner d part (Err x) → AreLabels p ws span e whole (Err x)
 noted-by p ws span inner e d whole part comes step (fault.Range k n) h = (comes k h.0, (step (operation_of n) k h.1.0, h.1.1))
 noted-by p ws span inner e d whole part comes step fault.NoMemory h = tt
 
@@ -77,7 +84,8 @@ take-map f zero xs = refl
 take-map f (suc n) [] = refl
 take-map f (suc n) (x ∷ xs) = ap (λ (ys : List _). f x ∷ ys) (take-map f n xs)
 
-next-at : (p : Course) (e : Assignment) (f : FormulaTree) (ws : List World) (i : ℕ) → suc i < length ws → true_ahead p e (next f) (drop i ws) ≡ true_ahead p e f (drop (suc i) ws)
+next-at : (p : Course) (e : Assignment) (f : FormulaTree) (ws : List World) (i : ℕ) → suc i < length ws →
+    true_ahead p e (next f) (drop i ws) ≡ true_ahead p e f (drop (suc i) ws)
 unfolding true_ahead
 next-at p e f [] i h = absurd (omega arith)
 next-at p e f (w ∷ []) i h = absurd (omega arith)
@@ -87,11 +95,13 @@ next-at p e f (w ∷ v ∷ ws) (suc i) h = next-at p e f (v ∷ ws) i (omega ari
 module _ (p : Course) (ws : List World) (span : Span) (within : IsWithin span (length ws)) (e : Assignment) (f : FormulaTree) where
   -- ---- negation
 
-  pub not-made : (bs cs : List Bool) → bs ≡ marks_in (true_ahead p e f) ws span → cs ≡ map not bs → cs ≡ marks_in (true_ahead p e (negation f)) ws span
+  pub not-made : (bs cs : List Bool) → bs ≡ marks_in (true_ahead p e f) ws span → cs ≡ map not bs → cs ≡
+      marks_in (true_ahead p e (negation f)) ws span
   unfolding true_ahead
   not-made bs cs h q =
       let s = drop span.from ws in
-      q ∙ (ap (map not) h ∙ (sym (take-map not (span.to - span.from) (marks (true_ahead p e f) s)) ∙ ap (take (span.to - span.from)) (marks-not (true_ahead p e f) s)))
+      q ∙ (ap (map not) h ∙ (sym (take-map not (span.to - span.from) (marks (true_ahead p e f) s)) ∙
+      ap (take (span.to - span.from)) (marks-not (true_ahead p e f) s)))
 
   pub not-noted : (x : CheckFault) → AreLabels p ws span e f (Err x) → AreLabels p ws span e (negation f) (Err x)
   not-noted x h = noted-by p ws span span e e (negation f) f (λ k c. c) (λ o k m. not-looked p ws o e f k m) x h
@@ -105,7 +115,8 @@ module _ (p : Course) (ws : List World) (span : Span) (within : IsWithin span (l
   pub shifted-within : span.to < length ws → IsWithin shifted (length ws)
   shifted-within h = record { order = (let order = within.order in omega arith); within = omega arith }
 
-  pub next-inside : span.to < length ws → (bs : List Bool) → bs ≡ marks_in (true_ahead p e f) ws shifted → bs ≡ marks_in (true_ahead p e (next f)) ws span
+  pub next-inside : span.to < length ws → (bs : List Bool) → bs ≡ marks_in (true_ahead p e f) ws shifted → bs ≡
+      marks_in (true_ahead p e (next f)) ws span
   next-inside h bs q = marks_in-by (true_ahead p e (next f)) ws span within bs
       (ap length q ∙ (marks_in-length (true_ahead p e f) ws shifted (shifted-within h) ∙ (let order = within.order in omega arith)))
       (λ k l. (
@@ -116,13 +127,16 @@ module _ (p : Course) (ws : List World) (span : Span) (within : IsWithin span (l
       ∙ (ap (λ (m : ℕ). true_ahead p e f (drop m ws)) place ∙ sym (next-at p e f ws (span.from + k) i)))
       ))
 
-  pub next-noted : (inner : Span) → span.from ≤ inner.from → (x : CheckFault) → AreLabels p ws inner e f (Err x) → AreLabels p ws span e (next f) (Err x)
-  next-noted inner from x h = noted-by p ws span inner e e (next f) f (λ k c. comes-later p ws span.from inner.from k from c) (λ o k m. word-looked p ws o later.Next e f k m) x h
+  pub next-noted : (inner : Span) → span.from ≤ inner.from → (x : CheckFault) → AreLabels p ws inner e f (Err x) →
+      AreLabels p ws span e (next f) (Err x)
+  next-noted inner from x h = noted-by p ws span inner e e (next f) f (λ k c. comes-later p ws span.from inner.from k from c)
+      (λ o k m. word-looked p ws o later.Next e f k m) x h
 
   -- ---- words that ask for later positions
 
   -- the positions that come at the first one or after it, where those from n on come again
-  module _ (n : ℕ) (again : p.again ≡ drop n ws) (loops : n < length ws) (ahead : Span) (here : ahead.from ≤ span.from) (before : ahead.from ≤ n) (one : (ahead.from ≡ span.from) ⊎ (ahead.from ≡ n)) (to : ahead.to ≡ length ws) where
+  module _ (n : ℕ) (again : p.again ≡ drop n ws) (loops : n < length ws) (ahead : Span) (here : ahead.from ≤ span.from)
+      (before : ahead.from ≤ n) (one : (ahead.from ≡ span.from) ⊎ (ahead.from ≡ n)) (to : ahead.to ≡ length ws) where
     pub ahead-within : IsWithin ahead (length ws)
     ahead-within = record { order = omega arith; within = omega arith }
 
@@ -139,15 +153,22 @@ module _ (p : Course) (ws : List World) (span : Span) (within : IsWithin span (l
     count-few = let room = within.within in omega arith
 
     -- the labels of these positions, and then of those that come again
-    pub round-labels : (d : Assignment) (g : FormulaTree) (bs cs : List Bool) → bs ≡ marks_in (true_ahead p d g) ws ahead → cs ≡ bs ++ drop (n - ahead.from) bs → cs ≡ marks_on p (true_ahead p d g) (drop ahead.from ws)
-    round-labels d g bs cs q r = r ∙ round-on p ws n again ahead.from span.from here before from-length (true_ahead p d g) bs (q ∙ marks_in-rest (true_ahead p d g) ws ahead ahead-within to)
+    pub round-labels : (d : Assignment) (g : FormulaTree) (bs cs : List Bool) → bs ≡ marks_in (true_ahead p d g) ws ahead → cs ≡ bs ++
+        drop (n - ahead.from) bs → cs ≡ marks_on p (true_ahead p d g) (drop ahead.from ws)
+    round-labels d g bs cs q r = r ∙ round-on p ws n again ahead.from span.from here before from-length (true_ahead p d g) bs
+        (q ∙ marks_in-rest (true_ahead p d g) ws ahead ahead-within to)
 
-    pub later-made : (word : Later) (bs cs ds new : List Bool) → bs ≡ marks_in (true_ahead p e f) ws ahead → cs ≡ bs ++ drop (n - ahead.from) bs → ds ≡ later_labels word cs → new ≡ take (span.to - span.from) (drop (span.from - ahead.from) ds) → new ≡ marks_in (true_ahead p e (later_tree word f)) ws span
+    pub later-made : (word : Later) (bs cs ds new : List Bool) → bs ≡ marks_in (true_ahead p e f) ws ahead → cs ≡ bs ++
+        drop (n - ahead.from) bs → ds ≡ later_labels word cs → new ≡ take (span.to - span.from) (drop (span.from - ahead.from) ds) → new ≡
+        marks_in (true_ahead p e (later_tree word f)) ws span
     later-made word bs cs ds new q r s u =
         let t = true_ahead p e f in
-        u ∙ (ap (λ (us : List Bool). take (span.to - span.from) (drop (span.from - ahead.from) us)) (s ∙ ap (later_labels word) (round-labels e f bs cs q r))
-        ∙ (made-here p ws n again ahead.from span.from here before from-length (span.to - span.from) count-few (later_labels word) (word-looks word) t
-        ∙ sym (marks_in-agree (true_ahead p e (later_tree word f)) (λ vs. first_of (later_labels word (marks_on p t vs))) (word-first word p e f) ws span)))
+        u ∙ (ap (λ (us : List Bool). take (span.to - span.from) (drop (span.from - ahead.from) us))
+        (s ∙ ap (later_labels word) (round-labels e f bs cs q r))
+        ∙ (made-here p ws n again ahead.from span.from here before from-length (span.to - span.from) count-few (later_labels word)
+        (word-looks word) t
+        ∙ sym (marks_in-agree (true_ahead p e (later_tree word f)) (λ vs. first_of (later_labels word (marks_on p t vs)))
+        (word-first word p e f) ws span)))
 
     pub later-noted : (word : Later) (x : CheckFault) → AreLabels p ws ahead e f (Err x) → AreLabels p ws span e (later_tree word f) (Err x)
     later-noted word x h = noted-by p ws span ahead e e (later_tree word f) f comes-on (λ o k m. word-looked p ws o word e f k m) x h
@@ -155,25 +176,32 @@ module _ (p : Course) (ws : List World) (span : Span) (within : IsWithin span (l
     -- ---- until
 
     module _ (d : Assignment) (h : FormulaTree) where
-      pub until-made : (bs cs bs2 cs2 ds new : List Bool) → d ≡ e → bs ≡ marks_in (true_ahead p e f) ws ahead → cs ≡ marks_in (true_ahead p d h) ws ahead → bs2 ≡ bs ++ drop (n - ahead.from) bs → cs2 ≡ cs ++ drop (n - ahead.from) cs → ds ≡ until_labels bs2 cs2
+      pub until-made : (bs cs bs2 cs2 ds new : List Bool) → d ≡ e → bs ≡ marks_in (true_ahead p e f) ws ahead → cs ≡
+          marks_in (true_ahead p d h) ws ahead → bs2 ≡ bs ++ drop (n - ahead.from) bs → cs2 ≡ cs ++ drop (n - ahead.from) cs → ds ≡
+          until_labels bs2 cs2
           → new ≡ take (span.to - span.from) (drop (span.from - ahead.from) ds) → new ≡ marks_in (true_ahead p e (until f h)) ws span
       unfolding true_ahead
       until-made bs cs bs2 cs2 ds new same q r b c s u =
           let t = true_ahead p e f in
           let v = true_ahead p e h in
-          let other : cs2 ≡ marks_on p v (drop ahead.from ws) = round-labels d h cs cs2 r c ∙ ap (λ (x : Assignment). marks_on p (true_ahead p x h) (drop ahead.from ws)) same in
-          u ∙ (ap (λ (us : List Bool). take (span.to - span.from) (drop (span.from - ahead.from) us)) (s ∙ ap₂ until_labels (round-labels e f bs bs2 q b) other)
+          let other : cs2 ≡ marks_on p v (drop ahead.from ws) = round-labels d h cs cs2 r c ∙
+          ap (λ (x : Assignment). marks_on p (true_ahead p x h) (drop ahead.from ws)) same in
+          u ∙ (ap (λ (us : List Bool). take (span.to - span.from) (drop (span.from - ahead.from) us))
+          (s ∙ ap₂ until_labels (round-labels e f bs bs2 q b) other)
           ∙ until-here p ws n again ahead.from span.from here before from-length (span.to - span.from) count-few t v)
 
       pub until-first-noted : (x : CheckFault) → AreLabels p ws ahead e f (Err x) → AreLabels p ws span e (until f h) (Err x)
       until-first-noted x k = noted-by p ws span ahead e e (until f h) f comes-on (λ o j m. until-first-looked p ws o e f h j m) x k
 
       pub until-second-noted : (x : CheckFault) → d ≡ e → AreLabels p ws ahead d h (Err x) → AreLabels p ws span e (until f h) (Err x)
-      until-second-noted x q k = noted-by p ws span ahead e e (until f h) h comes-on (λ o j m. until-second-looked p ws o e f h j m) x (subst (λ (y : Assignment). AreLabels p ws ahead y h (Err x)) q k)
+      until-second-noted x q k = noted-by p ws span ahead e e (until f h) h comes-on (λ o j m. until-second-looked p ws o e f h j m) x
+          (subst (λ (y : Assignment). AreLabels p ws ahead y h (Err x)) q k)
 
 -- labels of one span are equally many
-pub same-length : (ws : List World) (span : Span) → IsWithin span (length ws) → (t u : Ahead) (bs cs : List Bool) → bs ≡ marks_in t ws span → cs ≡ marks_in u ws span → length bs ≡ length cs
-same-length ws span inside t u bs cs r s = ap length r ∙ (marks_in-length t ws span inside ∙ sym (ap length s ∙ marks_in-length u ws span inside))
+pub same-length : (ws : List World) (span : Span) → IsWithin span (length ws) → (t u : Ahead) (bs cs : List Bool) → bs ≡
+    marks_in t ws span → cs ≡ marks_in u ws span → length bs ≡ length cs
+same-length ws span inside t u bs cs r s = ap length r ∙ (marks_in-length t ws span inside ∙
+    sym (ap length s ∙ marks_in-length u ws span inside))
 
 -- ---- formulas with one or two formulas below them
 
@@ -202,45 +230,57 @@ pub until-parts : (g : Signature) (f h : FormulaTree) → Fits g [] (until f h) 
 unfolding Fits
 until-parts g f h k = k
 
-pub one-Not : (f g : Formula) (x : Box Formula Global) → f ≡ formula.Not x → g ≡ x.value → OnePart f (negation (tree_of_formula g)) (tree_of_formula g)
+pub one-Not : (f g : Formula) (x : Box Formula Global) → f ≡ formula.Not x → g ≡ x.value →
+    OnePart f (negation (tree_of_formula g)) (tree_of_formula g)
 unfolding size
 one-Not f g x q r =
-    let tree : tree_of_formula f ≡ negation (tree_of_formula g) = ap tree_of_formula q ∙ (tree-Not x ∙ ap (λ (y : Formula). negation (tree_of_formula y)) (sym r)) in
+    let tree : tree_of_formula f ≡ negation (tree_of_formula g) = ap tree_of_formula q ∙
+    (tree-Not x ∙ ap (λ (y : Formula). negation (tree_of_formula y)) (sym r)) in
     let total : size (tree_of_formula f) ≡ 1 + size (tree_of_formula g) = ap size tree in
     record { tree = tree; smaller = omega arith }
 
-pub one-Next : (f g : Formula) (x : Box Formula Global) → f ≡ formula.Next x → g ≡ x.value → OnePart f (next (tree_of_formula g)) (tree_of_formula g)
+pub one-Next : (f g : Formula) (x : Box Formula Global) → f ≡ formula.Next x → g ≡ x.value →
+    OnePart f (next (tree_of_formula g)) (tree_of_formula g)
 unfolding size
 one-Next f g x q r =
-    let tree : tree_of_formula f ≡ next (tree_of_formula g) = ap tree_of_formula q ∙ (tree-Next x ∙ ap (λ (y : Formula). next (tree_of_formula y)) (sym r)) in
+    let tree : tree_of_formula f ≡ next (tree_of_formula g) = ap tree_of_formula q ∙
+    (tree-Next x ∙ ap (λ (y : Formula). next (tree_of_formula y)) (sym r)) in
     let total : size (tree_of_formula f) ≡ 1 + size (tree_of_formula g) = ap size tree in
     record { tree = tree; smaller = omega arith }
 
-pub one-Always : (f g : Formula) (x : Box Formula Global) → f ≡ formula.Always x → g ≡ x.value → OnePart f (later_tree later.Always (tree_of_formula g)) (tree_of_formula g)
+pub one-Always : (f g : Formula) (x : Box Formula Global) → f ≡ formula.Always x → g ≡ x.value →
+    OnePart f (later_tree later.Always (tree_of_formula g)) (tree_of_formula g)
 unfolding size
 one-Always f g x q r =
-    let tree : tree_of_formula f ≡ later_tree later.Always (tree_of_formula g) = ap tree_of_formula q ∙ (tree-Always x ∙ ap (λ (y : Formula). later_tree later.Always (tree_of_formula y)) (sym r)) in
+    let tree : tree_of_formula f ≡ later_tree later.Always (tree_of_formula g) = ap tree_of_formula q ∙
+    (tree-Always x ∙ ap (λ (y : Formula). later_tree later.Always (tree_of_formula y)) (sym r)) in
     let total : size (tree_of_formula f) ≡ 1 + size (tree_of_formula g) = ap size tree in
     record { tree = tree; smaller = omega arith }
 
-pub one-Eventually : (f g : Formula) (x : Box Formula Global) → f ≡ formula.Eventually x → g ≡ x.value → OnePart f (later_tree later.Eventually (tree_of_formula g)) (tree_of_formula g)
+pub one-Eventually : (f g : Formula) (x : Box Formula Global) → f ≡ formula.Eventually x → g ≡ x.value →
+    OnePart f (later_tree later.Eventually (tree_of_formula g)) (tree_of_formula g)
 unfolding size
 one-Eventually f g x q r =
-    let tree : tree_of_formula f ≡ later_tree later.Eventually (tree_of_formula g) = ap tree_of_formula q ∙ (tree-Eventually x ∙ ap (λ (y : Formula). later_tree later.Eventually (tree_of_formula y)) (sym r)) in
+    let tree : tree_of_formula f ≡ later_tree later.Eventually (tree_of_formula g) = ap tree_of_formula q ∙
+    (tree-Eventually x ∙ ap (λ (y : Formula). later_tree later.Eventually (tree_of_formula y)) (sym r)) in
     let total : size (tree_of_formula f) ≡ 1 + size (tree_of_formula g) = ap size tree in
     record { tree = tree; smaller = omega arith }
 
-pub one-Within : (f g : Formula) (n : ℕ) (x : Box Formula Global) → f ≡ formula.Within n x → g ≡ x.value → OnePart f (later_tree (later.Within n) (tree_of_formula g)) (tree_of_formula g)
+pub one-Within : (f g : Formula) (n : ℕ) (x : Box Formula Global) → f ≡ formula.Within n x → g ≡ x.value →
+    OnePart f (later_tree (later.Within n) (tree_of_formula g)) (tree_of_formula g)
 unfolding size
 one-Within f g n x q r =
-    let tree : tree_of_formula f ≡ later_tree (later.Within n) (tree_of_formula g) = ap tree_of_formula q ∙ (tree-Within n x ∙ ap (λ (y : Formula). later_tree (later.Within n) (tree_of_formula y)) (sym r)) in
+    let tree : tree_of_formula f ≡ later_tree (later.Within n) (tree_of_formula g) = ap tree_of_formula q ∙
+    (tree-Within n x ∙ ap (λ (y : Formula). later_tree (later.Within n) (tree_of_formula y)) (sym r)) in
     let total : size (tree_of_formula f) ≡ 1 + size (tree_of_formula g) = ap size tree in
     record { tree = tree; smaller = omega arith }
 
-pub one-During : (f g : Formula) (n : ℕ) (x : Box Formula Global) → f ≡ formula.During n x → g ≡ x.value → OnePart f (later_tree (later.During n) (tree_of_formula g)) (tree_of_formula g)
+pub one-During : (f g : Formula) (n : ℕ) (x : Box Formula Global) → f ≡ formula.During n x → g ≡ x.value →
+    OnePart f (later_tree (later.During n) (tree_of_formula g)) (tree_of_formula g)
 unfolding size
 one-During f g n x q r =
-    let tree : tree_of_formula f ≡ later_tree (later.During n) (tree_of_formula g) = ap tree_of_formula q ∙ (tree-During n x ∙ ap (λ (y : Formula). later_tree (later.During n) (tree_of_formula y)) (sym r)) in
+    let tree : tree_of_formula f ≡ later_tree (later.During n) (tree_of_formula g) = ap tree_of_formula q ∙
+    (tree-During n x ∙ ap (λ (y : Formula). later_tree (later.During n) (tree_of_formula y)) (sym r)) in
     let total : size (tree_of_formula f) ≡ 1 + size (tree_of_formula g) = ap size tree in
     record { tree = tree; smaller = omega arith }
 
@@ -252,7 +292,8 @@ pub record TwoParts (f : Formula) (g h : Formula) : Type 0 where
 pub two-Until : (f g h : Formula) (x y : Box Formula Global) → f ≡ formula.Until x y → g ≡ x.value → h ≡ y.value → TwoParts f g h
 unfolding size
 two-Until f g h x y q r s =
-    let tree : tree_of_formula f ≡ until (tree_of_formula g) (tree_of_formula h) = ap tree_of_formula q ∙ (tree-Until x y ∙ ap₂ (λ (a b : Formula). until (tree_of_formula a) (tree_of_formula b)) (sym r) (sym s)) in
+    let tree : tree_of_formula f ≡ until (tree_of_formula g) (tree_of_formula h) = ap tree_of_formula q ∙
+    (tree-Until x y ∙ ap₂ (λ (a b : Formula). until (tree_of_formula a) (tree_of_formula b)) (sym r) (sym s)) in
     let total : size (tree_of_formula f) ≡ 2 + (size (tree_of_formula g) + size (tree_of_formula h)) = ap size tree in
     record { tree = tree; smaller = omega arith }
 
@@ -276,17 +317,22 @@ all-Or f fs q =
     let total : size (tree_of_formula f) ≡ 1 + sizes (tree_of_formulas fs) = ap size tree in
     record { tree = tree; smaller = omega arith }
 
-among-items : (xs : List Formula) (i : ℕ) (x : Formula) → i < length xs → x ≡ get_or xs i x → Among (tree_of_formula x) (map tree_of_formula xs)
+among-items : (xs : List Formula) (i : ℕ) (x : Formula) → i < length xs → x ≡ get_or xs i x →
+    Among (tree_of_formula x) (map tree_of_formula xs)
 among-items [] i x h r = absurd (omega arith)
 among-items (y ∷ xs) zero x h r = inl (ap tree_of_formula (sym r))
 among-items (y ∷ xs) (suc i) x h r = inr (among-items xs i x (omega arith) r)
 
-pub item-noted : (p : Course) (ws : List World) (span : Span) (e d : Assignment) (junction : Junction) (fs : Formulas) (xs : List Formula) (i : ℕ) (x : Formula) → xs ≡ fs.items.items → i < length xs → x ≡ get_or xs i x → d ≡ e
-    → (y : CheckFault) → AreLabels p ws span d (tree_of_formula x) (Err y) → AreLabels p ws span e (joined junction (tree_of_formulas fs)) (Err y)
+pub item-noted : (p : Course) (ws : List World) (span : Span) (e d : Assignment) (junction : Junction) (fs : Formulas) (xs : List Formula)
+    (i : ℕ) (x : Formula) → xs ≡ fs.items.items → i < length xs → x ≡ get_or xs i x → d ≡ e
+    → (y : CheckFault) → AreLabels p ws span d (tree_of_formula x) (Err y) →
+    AreLabels p ws span e (joined junction (tree_of_formulas fs)) (Err y)
 item-noted p ws span e d junction fs xs i x q h r s y k =
-    let whole : tree_of_formulas fs ≡ formulas_of_list (map tree_of_formula xs) = trees-Formulas fs ∙ ap (λ (ys : List Formula). formulas_of_list (map tree_of_formula ys)) (sym q) in
+    let whole : tree_of_formulas fs ≡ formulas_of_list (map tree_of_formula xs) = trees-Formulas fs ∙
+    ap (λ (ys : List Formula). formulas_of_list (map tree_of_formula ys)) (sym q) in
     subst (λ (ts : FormulaTrees). AreLabels p ws span e (joined junction ts) (Err y)) (sym whole)
-    (noted-by p ws span span e e (joined junction (formulas_of_list (map tree_of_formula xs))) (tree_of_formula x) (λ k c. c) (λ o j m. part-looked p ws o e junction (map tree_of_formula xs) (tree_of_formula x) j (among-items xs i x h r) m) y
+    (noted-by p ws span span e e (joined junction (formulas_of_list (map tree_of_formula xs))) (tree_of_formula x) (λ k c. c)
+    (λ o j m. part-looked p ws o e junction (map tree_of_formula xs) (tree_of_formula x) j (among-items xs i x h r) m) y
     (subst (λ (z : Assignment). AreLabels p ws span z (tree_of_formula x) (Err y)) s k))
 
 -- ---- quantifiers
@@ -295,27 +341,34 @@ pub record Body (f : Formula) (junction : Junction) (ss : List Var) (b : Bound) 
   pub tree : tree_of_formula f ≡ quantified junction ss b (tree_of_formula g)
   pub smaller : 1 + size (tree_of_formula g) < size (tree_of_formula f)
 
-pub body-ForAll : (f g : Formula) (ss : List Var) (b : Bound) (x : Box Formula Global) → f ≡ formula.ForAll ss b x → g ≡ x.value → Body f All ss b g
+pub body-ForAll : (f g : Formula) (ss : List Var) (b : Bound) (x : Box Formula Global) → f ≡ formula.ForAll ss b x → g ≡ x.value →
+    Body f All ss b g
 unfolding size
 body-ForAll f g ss b x q r =
-    let tree : tree_of_formula f ≡ for_all ss b (tree_of_formula g) = ap tree_of_formula q ∙ (tree-ForAll ss b x ∙ ap (λ (y : Formula). for_all ss b (tree_of_formula y)) (sym r)) in
+    let tree : tree_of_formula f ≡ for_all ss b (tree_of_formula g) = ap tree_of_formula q ∙
+    (tree-ForAll ss b x ∙ ap (λ (y : Formula). for_all ss b (tree_of_formula y)) (sym r)) in
     let total : size (tree_of_formula f) ≡ 2 + size (tree_of_formula g) = ap size tree in
     record { tree = tree; smaller = omega arith }
 
-pub body-Exists : (f g : Formula) (ss : List Var) (b : Bound) (x : Box Formula Global) → f ≡ formula.Exists ss b x → g ≡ x.value → Body f Any ss b g
+pub body-Exists : (f g : Formula) (ss : List Var) (b : Bound) (x : Box Formula Global) → f ≡ formula.Exists ss b x → g ≡ x.value →
+    Body f Any ss b g
 unfolding size
 body-Exists f g ss b x q r =
-    let tree : tree_of_formula f ≡ for_some ss b (tree_of_formula g) = ap tree_of_formula q ∙ (tree-Exists ss b x ∙ ap (λ (y : Formula). for_some ss b (tree_of_formula y)) (sym r)) in
+    let tree : tree_of_formula f ≡ for_some ss b (tree_of_formula g) = ap tree_of_formula q ∙
+    (tree-Exists ss b x ∙ ap (λ (y : Formula). for_some ss b (tree_of_formula y)) (sym r)) in
     let total : size (tree_of_formula f) ≡ 2 + size (tree_of_formula g) = ap size tree in
     record { tree = tree; smaller = omega arith }
 
 -- ---- the exit of a `?`
 
-pub handed : {A : Type 0} (P : Result A CheckFault → Type 0) (r : Result A CheckFault) (x : CheckFault) → IsErrAnd r (λ y. y ≡ x) → P (Err x) → P r
+pub handed : {A : Type 0} (P : Result A CheckFault → Type 0) (r : Result A CheckFault) (x : CheckFault) → IsErrAnd r (λ y. y ≡ x) →
+    P (Err x) → P r
 handed P (Ok a) x same h = absurd same
 handed P (Err y) x same h = subst (λ (z : CheckFault). P (Err z)) (sym same) h
 
 -- the labels of the next positions
-pub next-handed : (p : Course) (ws : List World) (span : Span) (within : IsWithin span (length ws)) (e : Assignment) (f : FormulaTree) → span.to < length ws → (r : Result (List Bool) CheckFault) → AreLabels p ws (shifted p ws span within e f) e f r → AreLabels p ws span e (next f) r
+pub next-handed : (p : Course) (ws : List World) (span : Span) (within : IsWithin span (length ws)) (e : Assignment) (f : FormulaTree) →
+    span.to < length ws → (r : Result (List Bool) CheckFault) → AreLabels p ws (shifted p ws span within e f) e f r →
+    AreLabels p ws span e (next f) r
 next-handed p ws span inside e f h (Ok bs) k = next-inside p ws span inside e f h bs k
 next-handed p ws span inside e f h (Err x) k = next-noted p ws span inside e f (shifted p ws span inside e f) (omega arith) x k

@@ -1,5 +1,6 @@
 -- When the facts of a predicate hold along some worlds.
-use Rattle.std.proofs.Common.{◌≡◌, ◌<◌, ◌+◌, ◌-◌, ◌||◌, ℕ, zero, suc, List, [], ◌∷◌, ◌++◌, map, length, get_or, Bool, true, false, true≢false, Option, Some, None, IsSome, refl, sym, ap, ◌∙◌, subst, inl, inr, arith}
+use Rattle.std.proofs.Common.{◌≡◌, ◌<◌, ◌+◌, ◌-◌, ◌||◌, ℕ, zero, suc, List, [], ◌∷◌, ◌++◌, map, length, get_or, Bool, true, false}
+use Rattle.std.proofs.Common.{true≢false, Option, Some, None, IsSome, refl, sym, ap, ◌∙◌, subst, inl, inr, arith}
 use Rattle.std.specs.Cmp.{Equal-is, tied_itself}
 use Rattle.std.specs.FinSet as set
 use Rattle.std.specs.Global.{Vec}
@@ -73,7 +74,9 @@ module _ (q : ℕ) (ws : List World) where
   }
 
   -- the changes of one more state
-  pub tracks-on : (n : ℕ) (w : World) (before : List Value → Bool) (old new : Tracks) → slice_get ws n ≡ Some w → AreBeforeIn q ws n before → AreTracksUpTo n q ws old → TellsNext q n before w (line_in old.lines) (line_in new.lines) → HaveSeenAll new → AreTracksUpTo (n + 1) q ws new
+  pub tracks-on : (n : ℕ) (w : World) (before : List Value → Bool) (old new : Tracks) → slice_get ws n ≡ Some w →
+      AreBeforeIn q ws n before → AreTracksUpTo n q ws old → TellsNext q n before w (line_in old.lines) (line_in new.lines) →
+      HaveSeenAll new → AreTracksUpTo (n + 1) q ws new
   tracks-on n w before old new here known so next covered = record {
     tell = λ a j v h s. (elim (dec_lt j n) [
       | yes past ↦ next.earlier a j past ∙ so.tell a j v past s
@@ -81,7 +84,8 @@ module _ (q : ℕ) (ws : List World) where
           let same : j ≡ n = omega arith in
           let found : Some v ≡ Some w = sym s ∙ (ap (slice_get ws) same ∙ here) in
           let one : v ≡ w = cc in
-          ap (truth_from false (line_in new.lines (fact_with q a))) same ∙ (next.told a (more a) (was a n refl) ∙ ap (λ (u : World). has_fact u (q, a)) (sym one))
+          ap (truth_from false (line_in new.lines (fact_with q a))) same ∙
+          (next.told a (more a) (was a n refl) ∙ ap (λ (u : World). has_fact u (q, a)) (sym one))
           )
     ]);
     bounded = λ a. next.bounded a (more a);
@@ -94,15 +98,18 @@ module _ (q : ℕ) (ws : List World) where
       -- the truth that was told of the world before
       was : (a : List Value) (m : ℕ) → n ≡ m → truth_from false (line_in old.lines (fact_with q a)) n ≡ before a
       was a zero e =
-          let none : line_in old.lines (fact_with q a) ≡ [] = no-change (line_in old.lines (fact_with q a)) (subst (λ (k : ℕ). AreBefore k (line_in old.lines (fact_with q a))) e (so.bounded a)) in
+          let none : line_in old.lines (fact_with q a) ≡ [] = no-change (line_in old.lines (fact_with q a))
+          (subst (λ (k : ℕ). AreBefore k (line_in old.lines (fact_with q a))) e (so.bounded a)) in
           ap (λ (cs : List Change). truth_from false cs n) none ∙ sym (known.none e a)
       was a (suc m) e =
           let room = slice_get_within ws n w here in
           let v = there-is ws m (omega arith) in
           let after : n ≡ m + 1 = omega arith in
           ap (truth_from false (line_in old.lines (fact_with q a))) after
-          ∙ (truth-stays false (line_in old.lines (fact_with q a)) m (subst (λ (k : ℕ). AreBefore k (line_in old.lines (fact_with q a))) after (so.bounded a))
-          ∙ (so.tell a m v.0 (omega arith) v.1 ∙ sym (known.some v.0 (omega arith) (ap (slice_get ws) (let less : n - 1 ≡ m = omega arith in less) ∙ v.1) a)))
+          ∙ (truth-stays false (line_in old.lines (fact_with q a)) m (subst
+          (λ (k : ℕ). AreBefore k (line_in old.lines (fact_with q a))) after (so.bounded a))
+          ∙ (so.tell a m v.0 (omega arith) v.1 ∙ sym (known.some v.0 (omega arith)
+          (ap (slice_get ws) (let less : n - 1 ≡ m = omega arith in less) ∙ v.1) a)))
 
 -- ---- the world of all facts that were seen
 
@@ -124,21 +131,25 @@ fact-among : (g : Fact) (fs : List Fact) → Among g fs → Among (fact_key g) (
 fact-among g [] m = absurd m
 fact-among g (f ∷ fs) m = elim m [ inl q ↦ inl (ap fact_key q) | inr n ↦ inr (fact-among g fs n) ]
 
-pub seen-holds : (q : ℕ) (a : List Value) (fs : List Fact) (w : World) → w ≡ world_of fs [] → Among (fact_with q a) fs → has_fact w (q, a) ≡ true
+pub seen-holds : (q : ℕ) (a : List Value) (fs : List Fact) (w : World) → w ≡ world_of fs [] → Among (fact_with q a) fs → has_fact w (q, a) ≡
+    true
 unfolding world_of
-seen-holds q a fs w e m = ap (λ (v : World). has_fact v (q, a)) e ∙ (set.contains-from_list key_total (map fact_key fs) (q, a) ∙ any-among (q, a) fs (fact-among (fact_with q a) fs m))
+seen-holds q a fs w e m = ap (λ (v : World). has_fact v (q, a)) e ∙ (set.contains-from_list key_total (map fact_key fs) (q, a) ∙
+    any-among (q, a) fs (fact-among (fact_with q a) fs m))
 
 some-changes : (o : Option (Vec Change)) (i : ℕ) → truth_from false (changes_in o) i ≡ true → IsSome o
 some-changes None i h = absurd (true≢false (sym h))
 some-changes (Some v) i h = refl
 
-pub history-of : (q : ℕ) (ws : List World) (t : Tracks) (h : History) → AreTracksUpTo (length ws) q ws t → h.pred ≡ q → h.lines ≡ t.lines → h.ever ≡ world_of t.seen.items [] → IsFactHistory ws h
+pub history-of : (q : ℕ) (ws : List World) (t : Tracks) (h : History) → AreTracksUpTo (length ws) q ws t → h.pred ≡ q → h.lines ≡ t.lines →
+    h.ever ≡ world_of t.seen.items [] → IsFactHistory ws h
 history-of q ws t h so pred lines ever = record {
   tell = subst (λ (k : ℕ). TellUpTo (length ws) k ws h.lines) (sym pred) (subst (TellUpTo (length ws) q ws) (sym lines) so.tell);
   ever = λ a w m holds. (
       let at = among-place ws w m in
       let same : has_fact w (q, a) ≡ true = ap (λ (k : ℕ). has_fact w (k, a)) (sym pred) ∙ holds in
-      let known : IsSome (get fact_eq t.lines (fact_with q a)) = some-changes (get fact_eq t.lines (fact_with q a)) at.0 (so.tell a at.0 w at.1 at.2 ∙ same) in
+      let known : IsSome (get fact_eq t.lines (fact_with q a)) = some-changes (get fact_eq t.lines (fact_with q a)) at.0
+      (so.tell a at.0 w at.1 at.2 ∙ same) in
       ap (λ (k : ℕ). has_fact h.ever (k, a)) pred ∙ seen-holds q a t.seen.items h.ever ever (so.covered (fact_with q a) known)
       );
 }

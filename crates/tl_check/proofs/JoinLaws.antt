@@ -39,8 +39,10 @@ all-joined : {A : Type 0} (truth : A → Bool) (xs : List A) → list_all truth 
 all-joined truth [] = refl
 all-joined truth (x ∷ xs) = ap (λ (b : Bool). truth x && b) (all-joined truth xs)
 
-pub quantified-joined : (p : Course) (e : Assignment) (junction : Junction) (ss : List Var) (b : Bound) (f : FormulaTree) (w : World) (ws : List World)
-    → true_ahead p e (quantified junction ss b f) (w ∷ ws) ≡ joined_truths junction (λ t. true_ahead p (bind ss t e) f (w ∷ ws)) (tuples (situation_of p.problem w) e ss b)
+pub quantified-joined : (p : Course) (e : Assignment) (junction : Junction) (ss : List Var) (b : Bound) (f : FormulaTree) (w : World)
+    (ws : List World)
+    → true_ahead p e (quantified junction ss b f) (w ∷ ws) ≡ joined_truths junction (λ t. true_ahead p (bind ss t e) f (w ∷ ws))
+    (tuples (situation_of p.problem w) e ss b)
 unfolding true_ahead
 quantified-joined p e Any ss b f w ws = any-joined (λ t. true_ahead p (bind ss t e) f (w ∷ ws)) (tuples (situation_of p.problem w) e ss b)
 quantified-joined p e All ss b f w ws = all-joined (λ t. true_ahead p (bind ss t e) f (w ∷ ws)) (tuples (situation_of p.problem w) e ss b)

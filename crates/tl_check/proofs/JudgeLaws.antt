@@ -1,5 +1,6 @@
 -- The verdict on a plan whose states are known.
-use Rattle.std.proofs.Common.{◌≡◌, ◌≤◌, ◌<◌, ◌-◌, ◌↔◌, ℕ, suc, List, [], ◌∷◌, length, get_or, Bool, true, false, true≢false, Option, Some, None, Result, Ok, Err, IfOk, refl, sym, ap, ap₂, ◌∙◌, subst, inr, arith}
+use Rattle.std.proofs.Common.{◌≡◌, ◌≤◌, ◌<◌, ◌-◌, ◌↔◌, ℕ, suc, List, [], ◌∷◌, length, get_or, Bool, true, false, true≢false, Option, Some}
+use Rattle.std.proofs.Common.{None, Result, Ok, Err, IfOk, refl, sym, ap, ap₂, ◌∙◌, subst, inr, arith}
 use mathlib.Core.Path.{fun_ext}
 use Rattle.std.specs.Prelude.{slice_get}
 use Rattle.std.proofs.lemmas.Option.{slice_get_within}
@@ -51,7 +52,8 @@ pub valid-tells : (p : PlainProblem) (plan : List Action) (v : Verdict) → IsVe
 valid-tells p plan v h = (λ q. subst (IsVerdict p plan) q h, λ a. one-verdict p plan v verdict.Valid h a)
 
 -- the label of the first position tells whether the control formula is true ahead
-module _ (c : Course) (ws : List World) (some : 0 < length ws) (d : Assignment) (f : FormulaTree) (nothing : d ≡ no_values) (control : f ≡ c.problem.control) where
+module _ (c : Course) (ws : List World) (some : 0 < length ws) (d : Assignment) (f : FormulaTree) (nothing : d ≡ no_values)
+    (control : f ≡ c.problem.control) where
   pub first-within : IsWithin first (length ws)
   first-within = record { order = omega arith; within = omega arith }
 
@@ -63,9 +65,14 @@ module _ (c : Course) (ws : List World) (some : 0 < length ws) (d : Assignment) 
 
   pub obeys-noted : (y : CheckFault) → AreLabels c ws first d f (Err y) → Obeys c ws (Err y)
   obeys-noted fault.NoMemory h = tt
-  obeys-noted (fault.Range k n) h = (subst (λ (g : FormulaTree). Among (operation_of n) (looked_at c ws k no_values g)) control (subst (λ (x : Assignment). Among (operation_of n) (looked_at c ws k x f)) nothing h.1.0), h.1.1)
+  obeys-noted (fault.Range k n) h = (
+    subst (λ (g : FormulaTree). Among (operation_of n) (looked_at c ws k no_values g)) control
+        (subst (λ (x : Assignment). Among (operation_of n) (looked_at c ws k x f)) nothing h.1.0),
+    h.1.1,
+  )
 
-module _ (p : PlainProblem) (plan : List Action) (ws : List World) (u : World) (some : 0 < length ws) (s : u ≡ get_or ws (length ws - 1) u) (e : states p plan ≡ Some ws) where
+module _ (p : PlainProblem) (plan : List Action) (ws : List World) (u : World) (some : 0 < length ws) (s : u ≡ get_or ws (length ws - 1) u)
+    (e : states p plan ≡ Some ws) where
   pub record HasLast : Type 0 where
     pub from : World
     pub after : List World
@@ -77,7 +84,13 @@ module _ (p : PlainProblem) (plan : List Action) (ws : List World) (u : World) (
     where
       by : (vs : List World) → 0 < length vs → u ≡ get_or vs (length vs - 1) u → ws ≡ vs → HasLast
       by [] l r q = absurd (omega arith)
-      by (v ∷ vs) l r q = record { from = v; after = vs; all = q; last = last-is v vs u ∙ (ap (λ (i : ℕ). get_or (v ∷ vs) i u) (let m : length vs ≡ suc (length vs) - 1 = omega arith in m) ∙ sym r) }
+      by (v ∷ vs) l r q = record {
+        from = v;
+        after = vs;
+        all = q;
+        last = last-is v vs u ∙
+            (ap (λ (i : ℕ). get_or (v ∷ vs) i u) (let m : length vs ≡ suc (length vs) - 1 = omega arith in m) ∙ sym r);
+      }
 
   pub misses : meets_goal u p.goal p.avoid ≡ false → MissesGoal p plan
   misses h = record {
@@ -91,7 +104,8 @@ module _ (p : PlainProblem) (plan : List Action) (ws : List World) (u : World) (
   size-after = omega (arith, ap length known.all, states-count p plan ws e)
 
   -- what is true ahead of the states
-  ahead-is : true_ahead (course_from p (length plan) ws) no_values p.control ws ≡ true_ahead (course_from p (length known.after) (known.from ∷ known.after)) no_values p.control (known.from ∷ known.after)
+  ahead-is : true_ahead (course_from p (length plan) ws) no_values p.control ws ≡
+      true_ahead (course_from p (length known.after) (known.from ∷ known.after)) no_values p.control (known.from ∷ known.after)
   ahead-is =
       ap (λ (vs : List World). true_ahead (course_from p (length plan) vs) no_values p.control vs) known.all
       ∙ ap (λ (n : ℕ). true_ahead (course_from p n (known.from ∷ known.after)) no_values p.control (known.from ∷ known.after)) size-after
@@ -121,7 +135,8 @@ module _ (p : PlainProblem) (plan : List Action) (ws : List World) (u : World) (
     within-plan : (k : ℕ) (o : Operation) → Among o (looked_at (course_from p (length plan) ws) ws k no_values p.control) → k ≤ length plan
     within-plan k o h = by (slice_get ws k) refl h
       where
-        by : (x : Option World) → slice_get ws k ≡ x → Among o (looked_there p (worlds_up_to (course_from p (length plan) ws) ws k) x no_values p.control) → k ≤ length plan
+        by : (x : Option World) → slice_get ws k ≡ x → Among o (looked_there p
+            (worlds_up_to (course_from p (length plan) ws) ws k) x no_values p.control) → k ≤ length plan
         by None q m = absurd m
         by (Some w) q m = let a = slice_get_within ws k w q in let b = states-count p plan ws e in omega arith
 
@@ -134,12 +149,15 @@ module _ (p : PlainProblem) (plan : List Action) (ws : List World) (u : World) (
       reaches = met-last;
       within = within-plan k (operation_of n) h.0;
       told = (
-        along-looked p known.from known.after (length plan) (operation_of n) p.control k size-after (subst (λ (vs : List World). Among (operation_of n) (looked_at (course_from p (length plan) vs) vs k no_values p.control)) known.all h.0),
+        along-looked p known.from known.after (length plan) (operation_of n) p.control k size-after
+            (subst (λ (vs : List World). Among (operation_of n) (looked_at (course_from p (length plan) vs) vs k no_values p.control))
+            known.all h.0),
         h.1,
       );
     })
 
-pub valid-of : (p : PlainProblem) (plan : List Action) (r : Result Verdict CheckFault) → IfOk r (IsVerdict p plan) → IfOk r (λ v. (v ≡ verdict.Valid) ↔ IsAccepted p plan)
+pub valid-of : (p : PlainProblem) (plan : List Action) (r : Result Verdict CheckFault) → IfOk r (IsVerdict p plan) →
+    IfOk r (λ v. (v ≡ verdict.Valid) ↔ IsAccepted p plan)
 valid-of p plan (Ok v) h = valid-tells p plan v h
 valid-of p plan (Err x) h = tt
 

@@ -1,5 +1,6 @@
 -- The verdict on a plan by what is kept of its states.
-use Rattle.std.proofs.Common.{◌≡◌, ◌<◌, ◌+◌, ◌-◌, ◌^◌, ℕ, zero, suc, List, [], ◌∷◌, take, length, length-take, get_or, Option, Some, unwrap_or, Bool, true, false, cond, Result, Ok, Err, IfErr, IsErrAnd, refl, sym, ap, ◌∙◌, subst, inl, arith}
+use Rattle.std.proofs.Common.{◌≡◌, ◌<◌, ◌+◌, ◌-◌, ◌^◌, ℕ, zero, suc, List, [], ◌∷◌, take, length, length-take, get_or, Option, Some}
+use Rattle.std.proofs.Common.{unwrap_or, Bool, true, false, cond, Result, Ok, Err, IfErr, IsErrAnd, refl, sym, ap, ◌∙◌, subst, inl, arith}
 use Rattle.std.specs.Prelude.{slice_get}
 use Rattle.tl_action.specs.declared.check_fault.CheckFault.{CheckFault}
 use Rattle.tl_action.specs.declared.check_fault.CheckFault.TheVariants as fault
@@ -35,12 +36,14 @@ module _ (p : PlainProblem) (plan : List Action) (trail : Trail) (has : HasState
   pub last-state : trail.world ≡ get_or (states_of p plan) (length (states_of p plan) - 1) trail.world
   last-state = last-at (states_of p plan) trail.world (length (states_of p plan) - 1) is.1.last (omega (arith, some-states))
 
-  as-many : (keeps : Bool) → trail.kept.items ≡ cond keeps (states_of p plan) [] → length trail.kept.items ≡ length (states_of p plan) → trail.kept.items ≡ states_of p plan
+  as-many : (keeps : Bool) → trail.kept.items ≡ cond keeps (states_of p plan) [] → length trail.kept.items ≡ length (states_of p plan) →
+      trail.kept.items ≡ states_of p plan
   as-many true q h = q
   as-many false q h = absurd (let none : length trail.kept.items ≡ 0 = ap length q in omega (arith, some-states))
 
   -- what formulas are labelled along
-  pub along-is : (along : Along) → states_along along ≡ states_of p plan → along.count ≡ length plan + 1 → along.again ≡ length plan → length plan < 2 ^ 32 → along.kept.now ≡ trail.kept.items
+  pub along-is : (along : Along) → states_along along ≡ states_of p plan → along.count ≡ length plan + 1 → along.again ≡ length plan →
+      length plan < 2 ^ 32 → along.kept.now ≡ trail.kept.items
       → ((ws : List World) → Each (IsTracked ws) trail.tracks.items → Each (IsFactHistory ws) along.histories.now) → IsAlong along
   along-is along same count again short kept histories =
       let all = ap length same in
@@ -50,12 +53,15 @@ module _ (p : PlainProblem) (plan : List Action) (trail : Trail) (has : HasState
         count = omega (arith, all, total);
         again = omega (arith, count, again);
         kept = λ h. kept ∙ (as-many is.0 is.1.kept (ap length (sym kept) ∙ (h ∙ total)) ∙ sym same);
-        histories = subst (λ (ws : List World). Each (IsFactHistory ws) along.histories.now) (sym same) (histories (states_of p plan) is.1.tracks);
+        histories = subst (λ (ws : List World). Each (IsFactHistory ws) along.histories.now) (sym same)
+            (histories (states_of p plan) is.1.tracks);
       }
 
   -- the exit of a `?`
-  pub cause-passed : {A : Type 0} (along : Along) (P : Result A CheckFault → Type 0) → along.count ≡ length plan + 1 → along.kept.now ≡ trail.kept.items → ((y : CheckFault) → P (Err y) → IsCause p plan y)
-      → (r : Result Verdict Unlabelled) (x : Unlabelled) → IsErrAnd r (λ y. y ≡ x) → UnlessFew along P (Err x) → IfErr r (IsCauseByTrail p plan trail)
+  pub cause-passed : {A : Type 0} (along : Along) (P : Result A CheckFault → Type 0) → along.count ≡ length plan + 1 → along.kept.now ≡
+      trail.kept.items → ((y : CheckFault) → P (Err y) → IsCause p plan y)
+      → (r : Result Verdict Unlabelled) (x : Unlabelled) → IsErrAnd r (λ y. y ≡ x) → UnlessFew along P (Err x) →
+      IfErr r (IsCauseByTrail p plan trail)
   cause-passed along P count kept step (Ok v) x same h = absurd same
   cause-passed along P count kept step (Err y) x same h = subst (λ (z : Unlabelled). IsCauseByTrail p plan trail z) (sym same) (by x h)
     where
@@ -67,7 +73,8 @@ module _ (p : PlainProblem) (plan : List Action) (trail : Trail) (has : HasState
           )
 
 -- where the states are to be kept, none is missed
-pub cause-unless : (p : PlainProblem) (plan : List Action) (keeps : Bool) (trail : Trail) → Follows keeps (states_of p plan) trail → (r : Result Verdict Unlabelled) → IfErr r (IsCauseByTrail p plan trail) → IfErr r (IsCauseUnlessKept p plan keeps)
+pub cause-unless : (p : PlainProblem) (plan : List Action) (keeps : Bool) (trail : Trail) → Follows keeps (states_of p plan) trail →
+    (r : Result Verdict Unlabelled) → IfErr r (IsCauseByTrail p plan trail) → IfErr r (IsCauseUnlessKept p plan keeps)
 cause-unless p plan keeps trail follows (Ok v) h = h
 cause-unless p plan keeps trail follows (Err (unlabelled.Fault f)) h = h
 cause-unless p plan keeps trail follows (Err unlabelled.NotKept) h = by keeps follows.kept
@@ -77,14 +84,17 @@ cause-unless p plan keeps trail follows (Err unlabelled.NotKept) h = by keeps fo
     by false q = refl
 
 -- a fault as the plan is followed
-pub followed-cause : (p : PlainProblem) (keeps : Bool) (plan : List Action) (y : CheckFault) → IsFollowed p keeps plan (Err y) → IsCause p plan y
+pub followed-cause : (p : PlainProblem) (keeps : Bool) (plan : List Action) (y : CheckFault) → IsFollowed p keeps plan (Err y) →
+    IsCause p plan y
 followed-cause p keeps plan (fault.Range k note) h = inl h
 followed-cause p keeps plan fault.NoMemory h = tt
 
 -- as it leaves by a `?`
-pub followed-noted : {A : Type 0} (p : PlainProblem) (keeps : Bool) (plan : List Action) (r : Result A Unlabelled) (y : CheckFault) → IsErrAnd r (λ u. u ≡ unlabelled.Fault y) → IsFollowed p keeps plan (Err y) → IfErr r (IsCauseUnlessKept p plan keeps)
+pub followed-noted : {A : Type 0} (p : PlainProblem) (keeps : Bool) (plan : List Action) (r : Result A Unlabelled) (y : CheckFault) →
+    IsErrAnd r (λ u. u ≡ unlabelled.Fault y) → IsFollowed p keeps plan (Err y) → IfErr r (IsCauseUnlessKept p plan keeps)
 followed-noted p keeps plan (Ok v) y same h = absurd same
-followed-noted p keeps plan (Err u) y same h = subst (λ (v : Unlabelled). IsCauseUnlessKept p plan keeps v) (sym same) (followed-cause p keeps plan y h)
+followed-noted p keeps plan (Err u) y same h = subst (λ (v : Unlabelled). IsCauseUnlessKept p plan keeps v) (sym same)
+    (followed-cause p keeps plan y h)
 
 -- ---- a plan that goes round
 
@@ -120,9 +130,11 @@ module _ (p : PlainProblem) (plan : List Action) (trail : Trail) (is : IsKept p 
   unfolding states_of
   once-is =
       ap (λ (o : Option (List World)). unwrap_or o []) (states-front p plan (length plan - 1) (states_of p plan) is.0)
-      ∙ ap (λ (k : ℕ). take k (states_of p plan)) (let e : suc (length plan - 1) ≡ length (states_of p plan) - 1 = omega (arith, counted) in e)
+      ∙ ap (λ (k : ℕ). take k (states_of p plan)) (let e : suc (length plan - 1) ≡ length (states_of p plan) - 1 = omega (arith, counted) in
+      e)
 
-  pub round-along : {along : Along} → states_along along ≡ states_of p (take (length plan - 1) plan) → along.count ≡ length plan → along.again < length plan → length plan < 2 ^ 32 → along.kept.now ≡ take (length plan) trail.kept.items
+  pub round-along : {along : Along} → states_along along ≡ states_of p (take (length plan - 1) plan) → along.count ≡ length plan →
+      along.again < length plan → length plan < 2 ^ 32 → along.kept.now ≡ take (length plan) trail.kept.items
       → ((ws : List World) → Each (IsTracked ws) trail.tracks.items → Each (IsFactHistory ws) along.histories.now) → IsAlong along
   round-along {along} same count again short kept histories =
       let once = same ∙ once-is in
@@ -130,8 +142,11 @@ module _ (p : PlainProblem) (plan : List Action) (trail : Trail) (is : IsKept p 
         few = omega (arith, ap length once, once-length, short);
         count = omega (arith, ap length once, once-length, count);
         again = omega (arith, again, count);
-        kept = λ h. kept ∙ (ap (take (length plan)) is.1.kept ∙ (ap (λ (k : ℕ). take k (states_of p plan)) (let e : length plan ≡ length (states_of p plan) - 1 = omega (arith, counted) in e) ∙ sym once));
-        histories = subst (λ (ws : List World). Each (IsFactHistory ws) along.histories.now) (sym once) (histories-front (length (states_of p plan) - 1) (states_of p plan) along.histories.now (histories (states_of p plan) is.1.tracks));
+        kept = λ h. kept ∙ (ap (take (length plan)) is.1.kept ∙ (ap (λ (k : ℕ). take k (states_of p plan))
+            (let e : length plan ≡ length (states_of p plan) - 1 = omega (arith, counted) in e) ∙ sym once));
+        histories = subst (λ (ws : List World). Each (IsFactHistory ws) along.histories.now) (sym once)
+            (histories-front (length (states_of p plan) - 1) (states_of p plan) along.histories.now
+            (histories (states_of p plan) is.1.tracks));
       }
 
   -- they are kept
@@ -141,4 +156,5 @@ module _ (p : PlainProblem) (plan : List Action) (trail : Trail) (is : IsKept p 
   -- what is answered
   module _ (n : ℕ) (again : n < length plan) (ws : List World) (same : ws ≡ states_of p (take (length plan - 1) plan)) where
     pub round-answer : (r : Result Bool CheckFault) → Obeys (course_from p n ws) ws r → ObeysOn p n (front_states p plan) r
-    round-answer r h = obeys-round p n (front_states p plan) (omega (arith, once-length, again)) r (subst (λ (us : List World). Obeys (course_from p n us) us r) (same ∙ once-is) h)
+    round-answer r h = obeys-round p n (front_states p plan) (omega (arith, once-length, again)) r
+        (subst (λ (us : List World). Obeys (course_from p n us) us r) (same ∙ once-is) h)

@@ -1,5 +1,6 @@
 -- What the labels of a pass say, position by position.
-use Rattle.std.proofs.Common.{◌≡◌, ◌≤◌, ◌<◌, ◌+◌, ◌↔◌, ◌⊎◌, ℕ, zero, suc, List, [], ◌∷◌, map, length, get_or, Bool, true, false, not, true≢false, refl, sym, ap, ◌∙◌, inl, inr, arith}
+use Rattle.std.proofs.Common.{◌≡◌, ◌≤◌, ◌<◌, ◌+◌, ◌↔◌, ◌⊎◌, ℕ, zero, suc, List, [], ◌∷◌, map, length, get_or, Bool, true, false, not}
+use Rattle.std.proofs.Common.{true≢false, refl, sym, ap, ◌∙◌, inl, inr, arith}
 use Rattle.tl_check.specs.Passes.{first_or, next_labels, always_labels, eventually_labels, until_labels, one_within, within_labels}
 use Rattle.tl_syntax.proofs.ListLaws.{iff-trans, iff-path, and-iff, or-iff, not-iff}
 
@@ -50,7 +51,8 @@ later-here b bs = (elim [ inl q ↦ (0, omega arith, q) | inr k ↦ (suc k.0, om
 pub eventually-at : (bs : List Bool) (i : ℕ) → Later bs i ↔ IsMarked (eventually_labels bs) i
 eventually-at [] i = (λ h. absurd (unmarked h.0 h.2), λ h. absurd (unmarked i h))
 eventually-at (b ∷ bs) zero =
-    let rest : Later bs 0 ↔ (first_or false (eventually_labels bs) ≡ true) = iff-trans (eventually-at bs 0) (iff-path (λ (c : Bool). c ≡ true) (sym (first-is (eventually_labels bs)))) in
+    let rest : Later bs 0 ↔ (first_or false (eventually_labels bs) ≡ true) =
+    iff-trans (eventually-at bs 0) (iff-path (λ (c : Bool). c ≡ true) (sym (first-is (eventually_labels bs)))) in
     iff-trans ((later-here b bs).1, (later-here b bs).0) (or-iff (λ h. h, λ h. h) rest)
 eventually-at (b ∷ bs) (suc i) = iff-trans ((later-shift b bs i).1, (later-shift b bs i).0) (eventually-at bs i)
 
@@ -96,7 +98,14 @@ reaches-shift b c bs cs i = (λ h. back h.0 h.1 h.2 h.3, λ h. (suc h.0, omega (
     forth h (suc k) l m = h.3 k (omega arith) (omega arith)
 
 reaches-here : (b c : Bool) (bs cs : List Bool) → Reaches (b ∷ bs) (c ∷ cs) 0 ↔ ((c ≡ true) ⊎ ((b ≡ true) × Reaches bs cs 0))
-reaches-here b c bs cs = (λ h. out h.0 h.2 h.3, elim [ inl q ↦ (0, omega arith, q, λ k l m. absurd (omega arith)) | inr k ↦ (suc k.1.0, omega arith, k.1.2, λ n l m. into k n m) ])
+reaches-here b c bs cs = (
+  λ h. out h.0 h.2 h.3,
+  elim [
+    | inl q ↦ (0, omega arith, q, λ k l m. absurd (omega arith))
+    | inr k ↦
+        (suc k.1.0, omega arith, k.1.2, λ n l m. into k n m)
+  ],
+)
   where
     out : (j : ℕ) → IsMarked (c ∷ cs) j → ((k : ℕ) → 0 ≤ k → k < j → IsMarked (b ∷ bs) k) → (c ≡ true) ⊎ ((b ≡ true) × Reaches bs cs 0)
     out zero m all = inl m
@@ -111,7 +120,8 @@ until-at [] [] i e = (λ h. absurd (unmarked h.0 h.2), λ h. absurd (unmarked i 
 until-at [] (c ∷ cs) i e = absurd (omega arith)
 until-at (b ∷ bs) [] i e = absurd (omega arith)
 until-at (b ∷ bs) (c ∷ cs) zero e =
-    let rest : Reaches bs cs 0 ↔ (first_or false (until_labels bs cs) ≡ true) = iff-trans (until-at bs cs 0 (omega arith)) (iff-path (λ (d : Bool). d ≡ true) (sym (first-is (until_labels bs cs)))) in
+    let rest : Reaches bs cs 0 ↔ (first_or false (until_labels bs cs) ≡ true) =
+    iff-trans (until-at bs cs 0 (omega arith)) (iff-path (λ (d : Bool). d ≡ true) (sym (first-is (until_labels bs cs)))) in
     iff-trans (reaches-here b c bs cs) (or-iff (λ h. h, λ h. h) (and-iff (λ h. h, λ h. h) rest))
 until-at (b ∷ bs) (c ∷ cs) (suc i) e = iff-trans (reaches-shift b c bs cs i) (until-at bs cs i (omega arith))
 
@@ -134,7 +144,14 @@ near-one zero (b ∷ bs) = (λ h. by h.0 h.2 h.3, λ q. (0, omega arith, omega a
     by : (j : ℕ) → j ≤ 0 + 0 → IsMarked (b ∷ bs) j → b ≡ true
     by zero l m = m
     by (suc j) l m = absurd (omega arith)
-near-one (suc n) (b ∷ bs) = iff-trans (λ h. out h.0 h.2 h.3, elim [ inl q ↦ (0, omega arith, omega arith, q) | inr k ↦ (suc k.0, omega arith, omega (arith, k.2), k.3) ]) (or-iff (λ h. h, λ h. h) (near-one n bs))
+near-one (suc n) (b ∷ bs) = iff-trans (
+  λ h. out h.0 h.2 h.3,
+  elim [
+    | inl q ↦ (0, omega arith, omega arith, q)
+    | inr k ↦
+        (suc k.0, omega arith, omega (arith, k.2), k.3)
+  ],
+) (or-iff (λ h. h, λ h. h) (near-one n bs))
   where
     out : (j : ℕ) → j ≤ 0 + suc n → IsMarked (b ∷ bs) j → (b ≡ true) ⊎ Near n bs 0
     out zero l m = inl m
@@ -165,7 +182,8 @@ within-length n (b ∷ bs) = ap suc (within-length n bs)
 
 all-near : (n : ℕ) (bs : List Bool) (i : ℕ) → AllNear n bs i ↔ (Near n (map not bs) i → ⊥)
 all-near n bs i = (
-  λ h k. let l : k.0 < length bs = omega (arith, marked-within (map not bs) k.0 k.3, not-length bs) in refute (get_or bs k.0 false) (sym (not-at bs k.0 l) ∙ k.3) (h k.0 k.1 k.2 l),
+  λ h k. let l : k.0 < length bs = omega (arith, marked-within (map not bs) k.0 k.3, not-length bs) in
+      refute (get_or bs k.0 false) (sym (not-at bs k.0 l) ∙ k.3) (h k.0 k.1 k.2 l),
   λ h j l m r. by j l m r (get_or bs j false) refl h,
 )
   where
@@ -181,4 +199,5 @@ pub during-at : (n : ℕ) (bs : List Bool) (i : ℕ) → i < length bs → AllNe
 during-at n bs i h =
     let size : length (within_labels n (map not bs)) ≡ length bs = within-length n (map not bs) ∙ not-length bs in
     iff-trans (all-near n bs i)
-    (iff-trans (not-iff (within-at n (map not bs) i)) (iff-path (λ (b : Bool). b ≡ true) (sym (not-at (within_labels n (map not bs)) i (omega arith)))))
+    (iff-trans (not-iff (within-at n (map not bs) i)) (iff-path (λ (b : Bool). b ≡ true)
+    (sym (not-at (within_labels n (map not bs)) i (omega arith)))))

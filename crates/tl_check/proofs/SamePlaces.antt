@@ -1,5 +1,6 @@
 -- Bounds that read the same in two worlds.
-use Rattle.std.proofs.Common.{◌≡◌, ◌≤◌, ◌<◌, ◌+◌, ◌↔◌, ℕ, zero, suc, List, [], ◌∷◌, map, take, length, get_or, Option, Some, None, refl, sym, ap, ap₂, ◌∙◌, subst, arith, add-one}
+use Rattle.std.proofs.Common.{◌≡◌, ◌≤◌, ◌<◌, ◌+◌, ◌↔◌, ℕ, zero, suc, List, [], ◌∷◌, map, take, length, get_or, Option, Some, None, refl}
+use Rattle.std.proofs.Common.{sym, ap, ap₂, ◌∙◌, subst, arith, add-one}
 use Rattle.std.specs.Prelude.{slice_get}
 use native.Mathlib.Decide.{dec_lt}
 use Rattle.tl_check.specs.Gathered.{HaveSamePlaces, ReadSame, ReadSameUpTo}
@@ -24,13 +25,19 @@ use Rattle.tl_rows.specs.declared.table.PlaceRow.{PlaceRow}
 -- ---- tables of places
 
 -- the rows are the same, row by row
-pub rows-more : (xs ys : List PlaceRow) (k : ℕ) → k < length xs → k < length ys → take k xs ≡ take k ys → ((d : PlaceRow) → (get_or xs k d).args ≡ (get_or ys k d).args) → ((d : PlaceRow) → (get_or xs k d).value ≡ (get_or ys k d).value) → take (k + 1) xs ≡ take (k + 1) ys
-rows-more xs ys k l m so args value = ap (λ (n : ℕ). take n xs) (add-one k) ∙ (by xs ys k l m so args value ∙ ap (λ (n : ℕ). take n ys) (sym (add-one k)))
+pub rows-more : (xs ys : List PlaceRow) (k : ℕ) → k < length xs → k < length ys → take k xs ≡ take k ys →
+    ((d : PlaceRow) → (get_or xs k d).args ≡ (get_or ys k d).args) → ((d : PlaceRow) → (get_or xs k d).value ≡ (get_or ys k d).value) →
+    take (k + 1) xs ≡ take (k + 1) ys
+rows-more xs ys k l m so args value = ap (λ (n : ℕ). take n xs) (add-one k) ∙
+    (by xs ys k l m so args value ∙ ap (λ (n : ℕ). take n ys) (sym (add-one k)))
   where
-    by : (us vs : List PlaceRow) (n : ℕ) → n < length us → n < length vs → take n us ≡ take n vs → ((d : PlaceRow) → (get_or us n d).args ≡ (get_or vs n d).args) → ((d : PlaceRow) → (get_or us n d).value ≡ (get_or vs n d).value) → take (suc n) us ≡ take (suc n) vs
+    by : (us vs : List PlaceRow) (n : ℕ) → n < length us → n < length vs → take n us ≡ take n vs →
+        ((d : PlaceRow) → (get_or us n d).args ≡ (get_or vs n d).args) → ((d : PlaceRow) → (get_or us n d).value ≡ (get_or vs n d).value) →
+        take (suc n) us ≡ take (suc n) vs
     by [] vs n l m so args value = absurd (omega arith)
     by (u ∷ us) [] n l m so args value = absurd (omega arith)
-    by (u ∷ us) (v ∷ vs) zero l m so args value = ap₂ (λ (a : List Value) (x : Value). (let r : PlaceRow = record { args = a; value = x } in r) ∷ []) (args u) (value u)
+    by (u ∷ us) (v ∷ vs) zero l m so args value = ap₂ (λ (a : List Value) (x : Value).
+        (let r : PlaceRow = record { args = a; value = x } in r) ∷ []) (args u) (value u)
     by (u ∷ us) (v ∷ vs) (suc n) l m so args value =
         let head : u ≡ v = cc in
         let rest : take n us ≡ take n vs = cc in
@@ -56,7 +63,8 @@ places-same f v w xs ys h k q = λ a. same-option (value_at v (f, a)) (value_at 
   (λ e. (h a x).0 (subst (λ (rs : List PlaceRow). Among (a, x) (map place_row rs)) (sym q) ((k a x).1 e))),
 ))
 
-pub places-none : (f : ℕ) (v w : World) → ((a : List Value) → value_at v (f, a) ≡ None) → ((a : List Value) → value_at w (f, a) ≡ None) → HaveSamePlaces f v w
+pub places-none : (f : ℕ) (v w : World) → ((a : List Value) → value_at v (f, a) ≡ None) → ((a : List Value) → value_at w (f, a) ≡ None) →
+    HaveSamePlaces f v w
 places-none f v w h k = λ a. h a ∙ sym (k a)
 
 -- ---- bounds
@@ -76,7 +84,8 @@ same-begun b ws from i q k v w l h s t p e =
     let one : v ≡ w = cc in
     ap (λ (u : World). bound_true (situation_of p u) e b) one
 
-pub same-more : (b : Bound) (ws : List World) (from i : ℕ) (v w : World) → slice_get ws from ≡ Some v → slice_get ws i ≡ Some w → ReadSame b v w → ReadSameUpTo b ws from i → ReadSameUpTo b ws from (i + 1)
+pub same-more : (b : Bound) (ws : List World) (from i : ℕ) (v w : World) → slice_get ws from ≡ Some v → slice_get ws i ≡ Some w →
+    ReadSame b v w → ReadSameUpTo b ws from i → ReadSameUpTo b ws from (i + 1)
 same-more b ws from i v w s t same so k x y l h a c = elim (dec_lt k i) [
   | yes past ↦ so k x y l past a c
   | no now ↦ (
@@ -85,12 +94,14 @@ same-more b ws from i v w s t same so k x y l h a c = elim (dec_lt k i) [
       let right : Some w ≡ Some y = sym t ∙ (ap (slice_get ws) (sym here) ∙ c) in
       let one : v ≡ x = cc in
       let two : w ≡ y = cc in
-      λ p e. ap (λ (u : World). bound_true (situation_of p u) e b) (sym one) ∙ (same p e ∙ ap (λ (u : World). bound_true (situation_of p u) e b) two)
+      λ p e. ap (λ (u : World). bound_true (situation_of p u) e b) (sym one) ∙
+      (same p e ∙ ap (λ (u : World). bound_true (situation_of p u) e b) two)
       )
 ]
 
 -- the tuples are the same
-pub same-tuples : (p : PlainProblem) (e : Assignment) (ss : List Var) (b : Bound) (d : DifferInSlot ss) (o : OccurIn ss b) (v w : World) → ReadSame b v w → (a : List Value) → Among a (tuples (situation_of p v) e ss b) ↔ Among a (tuples (situation_of p w) e ss b)
+pub same-tuples : (p : PlainProblem) (e : Assignment) (ss : List Var) (b : Bound) (d : DifferInSlot ss) (o : OccurIn ss b) (v w : World) →
+    ReadSame b v w → (a : List Value) → Among a (tuples (situation_of p v) e ss b) ↔ Among a (tuples (situation_of p w) e ss b)
 same-tuples p e ss b d o v w h a =
     let x = all-tuples (situation_of p v) e ss b d o a in
     let y = all-tuples (situation_of p w) e ss b d o a in

@@ -4,7 +4,9 @@ use Rattle.tl_syntax.proofs.FormulaTrees.{trees-Formulas}
 use Rattle.tl_syntax.specs.declared.formula.Formula.{Formula}
 use Rattle.tl_syntax.specs.declared.formula.Formulas.{Formulas}
 use Rattle.tl_syntax.specs.TreeOfFormula.{tree_of_formula, tree_of_formulas}
-use Rattle.tl_syntax.specs.Trees.{FormulaTree, FormulaTrees, verum, falsum, atom, defined, compare, goal_fact, goal_place, goal_not, negation, conjunction, disjunction, for_all, for_some, next, always, eventually, until, within, during, no_formula, more_formulas, formulas_of_list}
+use Rattle.tl_syntax.specs.Trees.{FormulaTree, FormulaTrees, verum, falsum, atom, defined, compare, goal_fact, goal_place, goal_not}
+use Rattle.tl_syntax.specs.Trees.{negation, conjunction, disjunction, for_all, for_some, next, always, eventually, until, within, during}
+use Rattle.tl_syntax.specs.Trees.{no_formula, more_formulas, formulas_of_list}
 
 unfoldable mutual
   pub size : FormulaTree → ℕ
@@ -32,11 +34,15 @@ unfoldable mutual
   sizes no_formula = 0
   sizes (more_formulas f fs) = 1 + (size f + sizes fs)
 
-pub size-at : (xs : List Formula) (fs : Formulas) (i : ℕ) (x : Formula) → xs ≡ fs.items.items → i < length xs → x ≡ get_or xs i x → size (tree_of_formula x) < sizes (tree_of_formulas fs)
+pub size-at : (xs : List Formula) (fs : Formulas) (i : ℕ) (x : Formula) → xs ≡ fs.items.items → i < length xs → x ≡ get_or xs i x →
+    size (tree_of_formula x) < sizes (tree_of_formulas fs)
 unfolding size
-size-at xs fs i x q h r = subst (λ ts. size (tree_of_formula x) < sizes ts) (sym (trees-Formulas fs ∙ ap (λ (ys : List Formula). formulas_of_list (map tree_of_formula ys)) (sym q))) (by xs i h r)
+size-at xs fs i x q h r = subst (λ ts. size (tree_of_formula x) < sizes ts)
+    (sym (trees-Formulas fs ∙ ap (λ (ys : List Formula). formulas_of_list (map tree_of_formula ys)) (sym q))) (by xs i h r)
   where
-    by : (ys : List Formula) (j : ℕ) → j < length ys → x ≡ get_or ys j x → size (tree_of_formula x) < sizes (formulas_of_list (map tree_of_formula ys))
+    by : (ys : List Formula) (j : ℕ) → j < length ys → x ≡ get_or ys j x →
+        size (tree_of_formula x) < sizes (formulas_of_list (map tree_of_formula ys))
     by [] j l s = absurd (omega arith)
-    by (y ∷ ys) zero l s = let e : size (tree_of_formula x) ≡ size (tree_of_formula y) = ap (λ (z : Formula). size (tree_of_formula z)) s in omega arith
+    by (y ∷ ys) zero l s = let e : size (tree_of_formula x) ≡ size (tree_of_formula y) = ap (λ (z : Formula). size (tree_of_formula z)) s in
+        omega arith
     by (y ∷ ys) (suc j) l s = let more = by ys j (omega arith) s in omega arith

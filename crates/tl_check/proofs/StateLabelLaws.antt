@@ -16,10 +16,19 @@ use Rattle.tl_terms.specs.Looked.{looked_in_state, looks_of}
 use Rattle.tl_terms.specs.Truth.{state_true}
 use Rattle.tl_terms.specs.World.{World}
 
-pub state-noted : (p : Course) (ws : List World) (from k : ℕ) (e d : Assignment) (f : FormulaTree) (w : World) (n : RangeNote) → from ≤ k → k < length ws → w ≡ get_or ws k w → d ≡ e
+pub state-noted : (p : Course) (ws : List World) (from k : ℕ) (e d : Assignment) (f : FormulaTree) (w : World) (n : RangeNote) → from ≤ k →
+    k < length ws → w ≡ get_or ws k w → d ≡ e
     → Tells (looked_in_state (looks_of p.problem w) (situation_of p.problem w) d f) n → ComesAt p ws from k × Tells (looked_at p ws k e f) n
-state-noted p ws from k e d f w n l h q r t =
-    (inl l, (state-looked p ws (operation_of n) e f k w (slice_get_read ws (length ws) k w refl h q) (subst (λ (x : Assignment). Tells (looked_in_state (looks_of p.problem w) (situation_of p.problem w) x f) n) r t).0, t.1))
+state-noted p ws from k e d f w n l h q r t = (
+  inl l,
+  (
+    state-looked p ws (operation_of n) e f k w (slice_get_read ws (length ws) k w refl h q)
+        (subst (λ (x : Assignment). Tells (looked_in_state (looks_of p.problem w) (situation_of p.problem w) x f) n) r t).0,
+    t.1,
+  ),
+)
 
-pub state-told : (p : Course) (e d : Assignment) (f : FormulaTree) (w : World) (ws : List World) (b : Bool) → IsState f → d ≡ e → b ≡ state_true (situation_of p.problem w) d f → b ≡ true_ahead p e f (w ∷ ws)
-state-told p e d f w ws b s r q = q ∙ (ap (λ (x : Assignment). state_true (situation_of p.problem w) x f) r ∙ sym (ahead-state p e f w ws s))
+pub state-told : (p : Course) (e d : Assignment) (f : FormulaTree) (w : World) (ws : List World) (b : Bool) → IsState f → d ≡ e → b ≡
+    state_true (situation_of p.problem w) d f → b ≡ true_ahead p e f (w ∷ ws)
+state-told p e d f w ws b s r q = q ∙ (ap (λ (x : Assignment). state_true (situation_of p.problem w) x f) r ∙
+    sym (ahead-state p e f w ws s))

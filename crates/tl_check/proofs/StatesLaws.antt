@@ -14,12 +14,14 @@ pub states-are : (p : PlainProblem) (plan : List Action) (ws : List World) → s
 unfolding states_of
 states-are p plan ws e = sym (ap (λ (o : Option (List World)). unwrap_or o []) e)
 
-pub states-here : (p : PlainProblem) (plan : List Action) (ws : List World) → states p plan ≡ Some ws → states p plan ≡ Some (states_of p plan)
+pub states-here : (p : PlainProblem) (plan : List Action) (ws : List World) → states p plan ≡ Some ws → states p plan ≡
+    Some (states_of p plan)
 states-here p plan ws e = e ∙ ap (λ (vs : List World). Some vs) (states-are p plan ws e)
 
 -- ---- the exit of a `?`
 
-module _ {A B : Type 0} (along : Along) (P : Result A CheckFault → Type 0) (Q : Result B CheckFault → Type 0) (step : (y : CheckFault) → P (Err y) → Q (Err y)) where
+module _ {A B : Type 0} (along : Along) (P : Result A CheckFault → Type 0) (Q : Result B CheckFault → Type 0)
+    (step : (y : CheckFault) → P (Err y) → Q (Err y)) where
   pub passed : (x : Unlabelled) → UnlessFew along P (Err x) → UnlessFew along Q (Err x)
   passed (unlabelled.Fault y) h = step y h
   passed unlabelled.NotKept h = h
@@ -29,7 +31,8 @@ module _ {A B : Type 0} (along : Along) (P : Result A CheckFault → Type 0) (Q 
   passed-on (Err y) x same h = subst (λ (z : Unlabelled). UnlessFew along Q (Err z)) (sym same) (passed x h)
 
 -- the same of a call that wants no states kept
-pub fault-passed : {A : Type 0} (along : Along) (P : Result A CheckFault → Type 0) (r : Result A Unlabelled) (y : CheckFault) → IsErrAnd r (λ u. u ≡ unlabelled.Fault y) → P (Err y) → UnlessFew along P r
+pub fault-passed : {A : Type 0} (along : Along) (P : Result A CheckFault → Type 0) (r : Result A Unlabelled) (y : CheckFault) →
+    IsErrAnd r (λ u. u ≡ unlabelled.Fault y) → P (Err y) → UnlessFew along P r
 fault-passed along P (Ok b) y same h = absurd same
 fault-passed along P (Err u) y same h = subst (λ (z : Unlabelled). UnlessFew along P (Err z)) (sym same) h
 

@@ -39,9 +39,11 @@ fixed-Var t x q = subst IsFixed (sym (ap tree_of_term q ∙ tree-Var x)) (variab
 pub fixed-Val : (t : Term) (x : Value) → t ≡ term.Val x → IsFixed (tree_of_term t)
 fixed-Val t x q = subst IsFixed (sym (ap tree_of_term q ∙ tree-Val x)) (value-fixed x)
 
-pub fixed-Arith : (t : Term) (op : Op) (a b : Box Term Global) (at : ℕ) (x y : Term) → t ≡ term.Arith op a b at → x ≡ a.value → y ≡ b.value → IsFixed (tree_of_term x) → IsFixed (tree_of_term y) → IsFixed (tree_of_term t)
+pub fixed-Arith : (t : Term) (op : Op) (a b : Box Term Global) (at : ℕ) (x y : Term) → t ≡ term.Arith op a b at → x ≡ a.value → y ≡
+    b.value → IsFixed (tree_of_term x) → IsFixed (tree_of_term y) → IsFixed (tree_of_term t)
 fixed-Arith t op a b at x y q m n h k =
-    subst IsFixed (sym (ap tree_of_term q ∙ tree-Arith op a b at)) (arith-fixed op (tree_of_term a.value) (tree_of_term b.value) at (subst (λ (u : Term). IsFixed (tree_of_term u)) m h) (subst (λ (u : Term). IsFixed (tree_of_term u)) n k))
+    subst IsFixed (sym (ap tree_of_term q ∙ tree-Arith op a b at)) (arith-fixed op (tree_of_term a.value) (tree_of_term b.value) at
+    (subst (λ (u : Term). IsFixed (tree_of_term u)) m h) (subst (λ (u : Term). IsFixed (tree_of_term u)) n k))
 
 verum-steady : IsSteady verum
 unfolding true_ahead
@@ -82,5 +84,7 @@ steady-GoalPlace f k xs x q = subst IsSteady (sym (ap tree_of_formula q ∙ tree
 pub steady-GoalNot : (f : Formula) (k : ℕ) (xs : List Arg) → f ≡ formula.GoalNot k xs → IsSteady (tree_of_formula f)
 steady-GoalNot f k xs q = subst IsSteady (sym (ap tree_of_formula q ∙ tree-GoalNot k xs)) (goal_not-steady k xs)
 
-pub steady-Compare : (f : Formula) (c : Cmp) (x y : Term) → f ≡ formula.Compare c x y → IsFixed (tree_of_term x) → IsFixed (tree_of_term y) → IsSteady (tree_of_formula f)
-steady-Compare f c x y q h k = subst IsSteady (sym (ap tree_of_formula q ∙ tree-Compare c x y)) (compare-steady c (tree_of_term x) (tree_of_term y) h k)
+pub steady-Compare : (f : Formula) (c : Cmp) (x y : Term) → f ≡ formula.Compare c x y → IsFixed (tree_of_term x) →
+    IsFixed (tree_of_term y) → IsSteady (tree_of_formula f)
+steady-Compare f c x y q h k = subst IsSteady (sym (ap tree_of_formula q ∙ tree-Compare c x y))
+    (compare-steady c (tree_of_term x) (tree_of_term y) h k)

@@ -1,5 +1,6 @@
 -- What the changes of the facts of a predicate tell of one state more.
-use Rattle.std.proofs.Common.{◌≡◌, ◌≤◌, ◌<◌, ◌+◌, ◌↔◌, ◌⊎◌, ◌||◌, ◌&&◌, ℕ, zero, suc, List, [], ◌∷◌, length, take, get_or, not, Bool, true, false, true≢false, refl, sym, ap, ◌∙◌, subst, inl, inr, arith, add-one}
+use Rattle.std.proofs.Common.{◌≡◌, ◌≤◌, ◌<◌, ◌+◌, ◌↔◌, ◌⊎◌, ◌||◌, ◌&&◌, ℕ, zero, suc, List, [], ◌∷◌, length, take, get_or, not, Bool, true}
+use Rattle.std.proofs.Common.{false, true≢false, refl, sym, ap, ◌∙◌, subst, inl, inr, arith, add-one}
 use Rattle.std.specs.Cmp.{Equal-is, tied_itself}
 use Rattle.std.specs.Ordering.{eq_by_cmp}
 use Rattle.tl_action.specs.declared.changes.Changes.{Changes}
@@ -22,7 +23,8 @@ use Rattle.tl_world.proofs.Orders.{contains-all, contains-without, key-is}
 -- ---- items of a list that are passed
 
 -- one more item
-pub taken-more : {A : Type 0} (xs : List A) (i : ℕ) (x a : A) → i < length xs → x ≡ get_or xs i x → Among a (take (i + 1) xs) ↔ (Among a (take i xs) ⊎ (x ≡ a))
+pub taken-more : {A : Type 0} (xs : List A) (i : ℕ) (x a : A) → i < length xs → x ≡ get_or xs i x → Among a (take (i + 1) xs) ↔
+    (Among a (take i xs) ⊎ (x ≡ a))
 taken-more xs i x a h q = subst (λ (k : ℕ). Among a (take k xs) ↔ (Among a (take i xs) ⊎ (x ≡ a))) (sym (add-one i)) (by xs i h q)
   where
     by : (ys : List _) (k : ℕ) → k < length ys → x ≡ get_or ys k x → Among a (take (suc k) ys) ↔ (Among a (take k ys) ⊎ (x ≡ a))
@@ -58,7 +60,8 @@ module _ (q at : ℕ) (is : List Value → Bool) (old : Fact → List Change) wh
   }
 
   -- of the same rows
-  pub noted-same : (is_one other : List Value → Type 0) (new : Fact → List Change) → ((a : List Value) → other a ↔ is_one a) → AreNoted q at is is_one old new → AreNoted q at is other old new
+  pub noted-same : (is_one other : List Value → Type 0) (new : Fact → List Change) → ((a : List Value) → other a ↔ is_one a) →
+      AreNoted q at is is_one old new → AreNoted q at is other old new
   noted-same is_one other new same p = record {
     earlier = p.earlier;
     bounded = p.bounded;
@@ -67,7 +70,9 @@ module _ (q at : ℕ) (is : List Value → Bool) (old : Fact → List Change) wh
   }
 
   -- of one row more
-  module _ (is_one more : List Value → Type 0) (mid new : Fact → List Change) (r : List Value) (change : Change) (place : change.at ≡ at) (truth : change.truth ≡ is r) (split : (a : List Value) → more a ↔ (is_one a ⊎ (r ≡ a))) (p : AreNoted q at is is_one old mid) (one : TellsTruth (fact_with q r) change mid new) where
+  module _ (is_one more : List Value → Type 0) (mid new : Fact → List Change) (r : List Value) (change : Change) (place : change.at ≡ at)
+      (truth : change.truth ≡ is r) (split : (a : List Value) → more a ↔ (is_one a ⊎ (r ≡ a))) (p : AreNoted q at is is_one old mid)
+      (one : TellsTruth (fact_with q r) change mid new) where
     this-or-other : (a : List Value) → (r ≡ a) ⊎ (new (fact_with q a) ≡ mid (fact_with q a))
     this-or-other a = by (fact_eq (fact_with q r) (fact_with q a)) refl
       where
@@ -75,16 +80,20 @@ module _ (q at : ℕ) (is : List Value → Bool) (old : Fact → List Change) wh
         by true h = inl (ap (λ (g : Fact). g.args) ((fact-tells (fact_with q r) (fact_with q a)).0 h))
         by false h = inr (one.others (fact_with q a) h)
 
-    earlier-here : (a : List Value) → r ≡ a → (j : ℕ) → j < at → truth_from false (new (fact_with q a)) j ≡ truth_from false (mid (fact_with q a)) j
-    earlier-here a e j h = subst (λ (b : List Value). truth_from false (new (fact_with q b)) j ≡ truth_from false (mid (fact_with q b)) j) e (one.earlier j (omega (arith, h, place)))
+    earlier-here : (a : List Value) → r ≡ a → (j : ℕ) → j < at → truth_from false (new (fact_with q a)) j ≡
+        truth_from false (mid (fact_with q a)) j
+    earlier-here a e j h = subst (λ (b : List Value). truth_from false (new (fact_with q b)) j ≡ truth_from false (mid (fact_with q b)) j) e
+        (one.earlier j (omega (arith, h, place)))
 
     bounded-here : (a : List Value) → r ≡ a → AreBefore (at + 1) (mid (fact_with q a)) → AreBefore (at + 1) (new (fact_with q a))
     bounded-here a e = subst (λ (b : List Value). AreBefore (at + 1) (mid (fact_with q b)) → AreBefore (at + 1) (new (fact_with q b))) e
         (subst (λ (n : ℕ). AreBefore (n + 1) (mid (fact_with q r)) → AreBefore (n + 1) (new (fact_with q r))) place one.bounded)
 
     told-here : (a : List Value) → r ≡ a → AreBefore (at + 1) (mid (fact_with q a)) → truth_from false (new (fact_with q a)) at ≡ is a
-    told-here a e = subst (λ (b : List Value). AreBefore (at + 1) (mid (fact_with q b)) → truth_from false (new (fact_with q b)) at ≡ is b) e
-        (subst (λ (n : ℕ). AreBefore (n + 1) (mid (fact_with q r)) → truth_from false (new (fact_with q r)) n ≡ is r) place (λ h. one.there h ∙ truth))
+    told-here a e = subst (λ (b : List Value). AreBefore (at + 1) (mid (fact_with q b)) → truth_from false (new (fact_with q b)) at ≡ is b)
+        e
+        (subst (λ (n : ℕ). AreBefore (n + 1) (mid (fact_with q r)) → truth_from false (new (fact_with q r)) n ≡ is r) place
+        (λ h. one.there h ∙ truth))
 
     pub noted-more : AreNoted q at is more old new
     noted-more = record {
@@ -119,27 +128,32 @@ module _ (q : ℕ) (w : World) (old new : Fact → List Change) where
     told = λ a h was. was ∙ sym (none a);
   }
 
-  pub first-told : (rows : List (List Value)) → ((a : List Value) → Among a rows ↔ (has_fact w (q, a) ≡ true)) → AreNoted q 0 (λ a. true) (λ a. Among a rows) old new → TellsNext q 0 (λ a. false) w old new
+  pub first-told : (rows : List (List Value)) → ((a : List Value) → Among a rows ↔ (has_fact w (q, a) ≡ true)) →
+      AreNoted q 0 (λ a. true) (λ a. Among a rows) old new → TellsNext q 0 (λ a. false) w old new
   first-told rows are p = record {
     earlier = p.earlier;
     bounded = p.bounded;
     told = λ a h was. by a h was (has_fact w (q, a)) refl;
   }
     where
-      by : (a : List Value) → AreBefore 1 (old (fact_with q a)) → truth_from false (old (fact_with q a)) 0 ≡ false → (b : Bool) → has_fact w (q, a) ≡ b → truth_from false (new (fact_with q a)) 0 ≡ has_fact w (q, a)
+      by : (a : List Value) → AreBefore 1 (old (fact_with q a)) → truth_from false (old (fact_with q a)) 0 ≡ false → (b : Bool) →
+          has_fact w (q, a) ≡ b → truth_from false (new (fact_with q a)) 0 ≡ has_fact w (q, a)
       by a h was true is = p.told a h ((are a).1 is) ∙ sym is
-      by a h was false is = ap (λ (cs : List Change). truth_from false cs 0) (p.others a (λ m. true≢false (sym ((are a).0 m) ∙ is))) ∙ (was ∙ sym is)
+      by a h was false is = ap (λ (cs : List Change). truth_from false cs 0) (p.others a (λ m. true≢false (sym ((are a).0 m) ∙ is))) ∙
+          (was ∙ sym is)
 
 -- ---- the world that changes make
 
-pub fact-after : (v : World) (c : Changes) (k : Key) → has_fact (world_after v c) k ≡ (lists_fact c.adds k || (not (lists_fact c.dels k) && has_fact v k))
+pub fact-after : (v : World) (c : Changes) (k : Key) → has_fact (world_after v c) k ≡
+    (lists_fact c.adds k || (not (lists_fact c.dels k) && has_fact v k))
 unfolding world_after
 fact-after v c k = contains-all _ c.adds k ∙ ap (λ b. lists_fact c.adds k || b) (contains-without v.facts c.dels k)
 
 pub listed-among : (q : ℕ) (a : List Value) (fs : List Fact) → lists_fact fs (q, a) ≡ true → Among (fact_with q a) fs
 listed-among q a [] h = absurd (true≢false (sym h))
 listed-among q a (f ∷ fs) h =
-    (elim (eq_by_cmp key_cmp (q, a) (fact_key f)) as (λ b. eq_by_cmp key_cmp (q, a) (fact_key f) ≡ b → (b || lists_fact fs (q, a)) ≡ true → Among (fact_with q a) (f ∷ fs)) [
+    (elim (eq_by_cmp key_cmp (q, a) (fact_key f)) as (λ b. eq_by_cmp key_cmp (q, a) (fact_key f) ≡ b → (b || lists_fact fs (q, a)) ≡ true →
+    Among (fact_with q a) (f ∷ fs)) [
       | true ↦ λ e _. inl (same (key-is (q, a) (fact_key f) e))
       | false ↦ λ e t. inr (listed-among q a fs t)
     ]) refl h
@@ -162,13 +176,19 @@ among-listed q a (f ∷ fs) h m = elim m [
     later false h = h
 
 -- the deleted facts are noted, and then the added ones
-module _ (q at : ℕ) (v : World) (c : Changes) (old mid new : Fact → List Change) (d : AreNoted q at (λ a. has_fact (world_after v c) (q, a)) (λ a. Among (fact_with q a) c.dels) old mid) (p : AreNoted q at (λ a. has_fact (world_after v c) (q, a)) (λ a. Among (fact_with q a) c.adds) mid new) where
-  is : (a : List Value) (b e : Bool) → lists_fact c.adds (q, a) ≡ b → lists_fact c.dels (q, a) ≡ e → has_fact (world_after v c) (q, a) ≡ (b || (not e && has_fact v (q, a)))
+module _ (q at : ℕ) (v : World) (c : Changes) (old mid new : Fact → List Change)
+    (d : AreNoted q at (λ a. has_fact (world_after v c) (q, a)) (λ a. Among (fact_with q a) c.dels) old mid)
+    (p : AreNoted q at (λ a. has_fact (world_after v c) (q, a)) (λ a. Among (fact_with q a) c.adds) mid new) where
+  is : (a : List Value) (b e : Bool) → lists_fact c.adds (q, a) ≡ b → lists_fact c.dels (q, a) ≡ e → has_fact (world_after v c) (q, a) ≡
+      (b || (not e && has_fact v (q, a)))
   is a b e f g = fact-after v c (q, a) ∙ (λ i. f i || (not (g i) && has_fact v (q, a)))
 
-  by : (a : List Value) → AreBefore (at + 1) (old (fact_with q a)) → truth_from false (old (fact_with q a)) at ≡ has_fact v (q, a) → (b e : Bool) → lists_fact c.adds (q, a) ≡ b → lists_fact c.dels (q, a) ≡ e → truth_from false (new (fact_with q a)) at ≡ has_fact (world_after v c) (q, a)
+  by : (a : List Value) → AreBefore (at + 1) (old (fact_with q a)) → truth_from false (old (fact_with q a)) at ≡ has_fact v (q, a) →
+      (b e : Bool) → lists_fact c.adds (q, a) ≡ b → lists_fact c.dels (q, a) ≡ e → truth_from false (new (fact_with q a)) at ≡
+      has_fact (world_after v c) (q, a)
   by a h was true e f g = p.told a (d.bounded a h) (listed-among q a c.adds f)
-  by a h was false true f g = ap (λ (cs : List Change). truth_from false cs at) (p.others a (among-listed q a c.adds f)) ∙ d.told a h (listed-among q a c.dels g)
+  by a h was false true f g = ap (λ (cs : List Change). truth_from false cs at) (p.others a (among-listed q a c.adds f)) ∙
+      d.told a h (listed-among q a c.dels g)
   by a h was false false f g =
       ap (λ (cs : List Change). truth_from false cs at) (p.others a (among-listed q a c.adds f) ∙ d.others a (among-listed q a c.dels g))
       ∙ (was ∙ sym (is a false false f g))

@@ -1,5 +1,6 @@
 -- What is kept of the states of a plan, as it is followed.
-use Rattle.std.proofs.Common.{◌≡◌, ◌≤◌, ◌<◌, ◌+◌, ◌-◌, ◌↔◌, ◌⊎◌, ℕ, zero, suc, List, [], ◌∷◌, ◌++◌, take, length, get_or, Bool, true, false, cond, Some, Err, refl, sym, ap, ◌∙◌, subst, inl, inr, arith, length-append}
+use Rattle.std.proofs.Common.{◌≡◌, ◌≤◌, ◌<◌, ◌+◌, ◌-◌, ◌↔◌, ◌⊎◌, ℕ, zero, suc, List, [], ◌∷◌, ◌++◌, take, length, get_or, Bool, true, false}
+use Rattle.std.proofs.Common.{cond, Some, Err, refl, sym, ap, ◌∙◌, subst, inl, inr, arith, length-append}
 use Rattle.std.specs.Prelude.{slice_get}
 use Rattle.std.proofs.lemmas.Option.{get_or_from_slice_get}
 use Rattle.tl_eval.specs.Faults.{IsCausedBy}
@@ -14,7 +15,8 @@ use Rattle.tl_check.specs.Histories.{AreTracksUpTo}
 use Rattle.tl_check.proofs.ToldLaws.{noted-none, noted-same, noted-more, taken-more, taken-all, next-told}
 use Rattle.tl_check.specs.Told.{AreNoted, TellsNext}
 use Rattle.tl_check.specs.Tracks.{fact_with, line_in, HaveSeenAll, TellsOf}
-use Rattle.tl_check.specs.Trails.{EndsIn, Follows, FollowsOn, HasSeenAll, HaveAllSeen, IsFollowed, IsTracked, KeepsOne, MakeNext, NotesFact, NotesFacts, TracksOn, TrackAllOn}
+use Rattle.tl_check.specs.Trails.{EndsIn, Follows, FollowsOn, HasSeenAll, HaveAllSeen, IsFollowed, IsTracked, KeepsOne, MakeNext, NotesFact}
+use Rattle.tl_check.specs.Trails.{NotesFacts, TracksOn, TrackAllOn}
 use Rattle.tl_check.specs.declared.line.Change.{Change}
 use Rattle.tl_check.specs.declared.predicate_tracks.PredicateTracks.{PredicateTracks}
 use Rattle.tl_check.specs.declared.tracks.Tracks.{Tracks}
@@ -48,7 +50,8 @@ pub last-there : (ws : List World) (w : World) (k : ℕ) → EndsIn ws w → len
 last-there ws w k ends size =
     let long : length ws ≡ length ends.0 + 1 = ap length ends.1 ∙ one-more ends.0 w in
     let place : length ends.0 ≡ k = omega (arith, long, size) in
-    ap (λ (vs : List World). slice_get vs k) ends.1 ∙ subst (λ (n : ℕ). slice_get (ends.0 ++ w ∷ []) n ≡ Some w) place (slice-seam ends.0 w [])
+    ap (λ (vs : List World). slice_get vs k) ends.1 ∙ subst (λ (n : ℕ). slice_get (ends.0 ++ w ∷ []) n ≡ Some w) place
+    (slice-seam ends.0 w [])
 
 pub last-at : (ws : List World) (w : World) (k : ℕ) → EndsIn ws w → length ws ≡ k + 1 → w ≡ get_or ws k w
 last-at ws w k ends size = sym (get_or_from_slice_get ws k w w (last-there ws w k ends size))
@@ -65,17 +68,22 @@ tracks-more n q ws vs t l so = record {
   covered = so.covered;
 }
 
-pub tracked-first : (w : World) (q : ℕ) (none some : Tracks) → AreTracksUpTo 0 q (w ∷ []) none → TellsNext q 0 (λ a. false) w (line_in none.lines) (line_in some.lines) → HaveSeenAll some → AreTracksUpTo 1 q (w ∷ []) some
+pub tracked-first : (w : World) (q : ℕ) (none some : Tracks) → AreTracksUpTo 0 q (w ∷ []) none →
+    TellsNext q 0 (λ a. false) w (line_in none.lines) (line_in some.lines) → HaveSeenAll some → AreTracksUpTo 1 q (w ∷ []) some
 tracked-first w q none some so tells covered =
-    tracks-on q (w ∷ []) 0 w (λ a. false) none some refl (record { none = λ z a. refl; some = λ v h s a. absurd (omega arith) }) so tells covered
+    tracks-on q (w ∷ []) 0 w (λ a. false) none some refl (record { none = λ z a. refl; some = λ v h s a. absurd (omega arith) }) so tells
+    covered
 
-pub tracked-on : (changes : Changes) (next : World) (at : ℕ) (old new : PredicateTracks) → new.pred ≡ old.pred → ((v : World) → next ≡ world_after v changes → TellsNext old.pred at (λ a. has_fact v (old.pred, a)) next (line_in old.tracks.lines) (line_in new.tracks.lines)) → HaveSeenAll new.tracks → TracksOn changes next at old new
+pub tracked-on : (changes : Changes) (next : World) (at : ℕ) (old new : PredicateTracks) → new.pred ≡ old.pred →
+    ((v : World) → next ≡ world_after v changes → TellsNext old.pred at (λ a. has_fact v (old.pred, a)) next (line_in old.tracks.lines)
+    (line_in new.tracks.lines)) → HaveSeenAll new.tracks → TracksOn changes next at old new
 tracked-on changes next at old new same tells covered ws makes so =
     let all = ws ++ next ∷ [] in
     let before = makes.last in
     let size = makes.size in
     let some = last-some ws before makes.ends in
-    let last : slice_get all (at - 1) ≡ Some before = slice-front ws (next ∷ []) (at - 1) (omega arith) ∙ last-there ws before (at - 1) makes.ends (omega arith) in
+    let last : slice_get all (at - 1) ≡ Some before = slice-front ws (next ∷ []) (at - 1) (omega arith) ∙
+    last-there ws before (at - 1) makes.ends (omega arith) in
     let here : slice_get all at ≡ Some next = subst (λ (n : ℕ). slice_get all n ≡ Some next) size (slice-seam ws next []) in
     let known : AreBeforeIn old.pred all at (λ a. has_fact before (old.pred, a)) = record {
       none = λ z. absurd (omega arith);
@@ -85,19 +93,27 @@ tracked-on changes next at old new same tells covered ws makes so =
           ap (λ (v : World). has_fact v (old.pred, a)) one
           );
     } in
-    let was = tracks-more at old.pred ws (next ∷ []) old.tracks (omega arith) (subst (λ (n : ℕ). AreTracksUpTo n old.pred ws old.tracks) size so) in
-    let done : AreTracksUpTo (at + 1) old.pred all new.tracks = tracks-on old.pred all at next (λ a. has_fact before (old.pred, a)) old.tracks new.tracks here known was (tells before makes.is) covered in
+    let was = tracks-more at old.pred ws (next ∷ []) old.tracks (omega arith)
+    (subst (λ (n : ℕ). AreTracksUpTo n old.pred ws old.tracks) size so) in
+    let done : AreTracksUpTo (at + 1) old.pred all new.tracks = tracks-on old.pred all at next
+    (λ a. has_fact before (old.pred, a)) old.tracks new.tracks here known was (tells before makes.is) covered in
     let long : at + 1 ≡ length all = sym (one-more ws next ∙ ap (λ (n : ℕ). n + 1) size) in
-    subst (λ (q : ℕ). AreTracksUpTo (length all) q all new.tracks) (sym same) (subst (λ (n : ℕ). AreTracksUpTo n old.pred all new.tracks) long done)
+    subst (λ (q : ℕ). AreTracksUpTo (length all) q all new.tracks) (sym same)
+    (subst (λ (n : ℕ). AreTracksUpTo n old.pred all new.tracks) long done)
 
 -- ---- the facts that an action names
 
 -- none of them
 pub facts-none : (fs : List Fact) (w : World) (at : ℕ) (t : PredicateTracks) → NotesFacts (take 0 fs) w at t t
-facts-none fs w at t = (refl, noted-none t.pred at (λ a. has_fact w (t.pred, a)) (line_in t.tracks.lines) (λ a. Among (fact_with t.pred a) (take 0 fs)) (λ a m. m))
+facts-none fs w at t = (
+  refl,
+  noted-none t.pred at (λ a. has_fact w (t.pred, a)) (line_in t.tracks.lines)
+      (λ a. Among (fact_with t.pred a) (take 0 fs)) (λ a m. m),
+)
 
 -- one more
-module _ (fs : List Fact) (w : World) (at i : ℕ) (f : Fact) (old mid new : PredicateTracks) (room : i < length fs) (here : f ≡ get_or fs i f) (p : NotesFacts (take i fs) w at old mid) where
+module _ (fs : List Fact) (w : World) (at i : ℕ) (f : Fact) (old mid new : PredicateTracks) (room : i < length fs)
+    (here : f ≡ get_or fs i f) (p : NotesFacts (take i fs) w at old mid) where
   abbrev lines : Fact → List Change
   lines = line_in old.tracks.lines
 
@@ -126,12 +142,14 @@ module _ (fs : List Fact) (w : World) (at i : ℕ) (f : Fact) (old mid new : Pre
         )) p.1),
   )
 
-  facts-same : f.pred ≡ mid.pred → new.pred ≡ mid.pred → TellsOf f change mid.tracks.lines new.tracks.lines → NotesFacts (take (i + 1) fs) w at old new
+  facts-same : f.pred ≡ mid.pred → new.pred ≡ mid.pred → TellsOf f change mid.tracks.lines new.tracks.lines →
+      NotesFacts (take (i + 1) fs) w at old new
   facts-same is_one stays tells =
       let q : f.pred ≡ old.pred = is_one ∙ p.0 in
       let named : f ≡ fact_with old.pred f.args = λ j. record { pred = q j; args = f.args } in (
         stays ∙ p.0,
-        noted-more old.pred at is lines fewer more (line_in mid.tracks.lines) (line_in new.tracks.lines) f.args change refl (ap (λ (k : ℕ). has_fact w (k, f.args)) q)
+        noted-more old.pred at is lines fewer more (line_in mid.tracks.lines) (line_in new.tracks.lines) f.args change refl
+            (ap (λ (k : ℕ). has_fact w (k, f.args)) q)
             (λ a. (
               λ m. elim ((split a).0 m) [ inl n ↦ inl n | inr e ↦ inr (ap (λ (g : Fact). g.args) e) ],
               λ m. elim m [ inl n ↦ (split a).1 (inl n) | inr e ↦ (split a).1 (inr (named ∙ ap (fact_with old.pred) e)) ],
@@ -143,24 +161,32 @@ module _ (fs : List Fact) (w : World) (at i : ℕ) (f : Fact) (old mid new : Pre
   facts-more one = elim one [ inl other ↦ facts-other other.0 other.1 | inr same ↦ facts-same same.0 same.1 same.2 ]
 
 -- all of them
-pub facts-all : (fs : List Fact) (w : World) (at i : ℕ) (old new : PredicateTracks) → length fs ≤ i → NotesFacts (take i fs) w at old new → NotesFacts fs w at old new
+pub facts-all : (fs : List Fact) (w : World) (at i : ℕ) (old new : PredicateTracks) → length fs ≤ i → NotesFacts (take i fs) w at old new →
+    NotesFacts fs w at old new
 facts-all fs w at i old new h p = subst (λ (gs : List Fact). NotesFacts gs w at old new) (taken-all fs i h) p
 
 -- the deleted ones, and then the added ones
-pub notes-next : (changes : Changes) (next : World) (at : ℕ) (old mid new : PredicateTracks) → NotesFacts changes.dels next at old mid → NotesFacts changes.adds next at mid new → HasSeenAll new → TracksOn changes next at old new
+pub notes-next : (changes : Changes) (next : World) (at : ℕ) (old mid new : PredicateTracks) → NotesFacts changes.dels next at old mid →
+    NotesFacts changes.adds next at mid new → HasSeenAll new → TracksOn changes next at old new
 notes-next changes next at old mid new d p covered = tracked-on changes next at old new (p.0 ∙ d.0) tells covered
   where
-    tells : (v : World) → next ≡ world_after v changes → TellsNext old.pred at (λ a. has_fact v (old.pred, a)) next (line_in old.tracks.lines) (line_in new.tracks.lines)
+    tells : (v : World) → next ≡ world_after v changes → TellsNext old.pred at (λ a. has_fact v (old.pred, a)) next
+        (line_in old.tracks.lines) (line_in new.tracks.lines)
     tells v e =
-        let adds = subst (λ (q : ℕ). AreNoted q at (λ a. has_fact next (q, a)) (λ a. Among (fact_with q a) changes.adds) (line_in mid.tracks.lines) (line_in new.tracks.lines)) d.0 p.1 in
-        subst (λ (w : World). TellsNext old.pred at (λ a. has_fact v (old.pred, a)) w (line_in old.tracks.lines) (line_in new.tracks.lines)) (sym e)
+        let adds = subst (λ (q : ℕ). AreNoted q at (λ a. has_fact next (q, a)) (λ a. Among (fact_with q a) changes.adds)
+        (line_in mid.tracks.lines) (line_in new.tracks.lines)) d.0 p.1 in
+        subst (λ (w : World). TellsNext old.pred at (λ a. has_fact v (old.pred, a)) w (line_in old.tracks.lines) (line_in new.tracks.lines))
+        (sym e)
         (next-told old.pred at v changes (line_in old.tracks.lines) (line_in mid.tracks.lines) (line_in new.tracks.lines)
-        (subst (λ (w : World). AreNoted old.pred at (λ a. has_fact w (old.pred, a)) (λ a. Among (fact_with old.pred a) changes.dels) (line_in old.tracks.lines) (line_in mid.tracks.lines)) e d.1)
-        (subst (λ (w : World). AreNoted old.pred at (λ a. has_fact w (old.pred, a)) (λ a. Among (fact_with old.pred a) changes.adds) (line_in mid.tracks.lines) (line_in new.tracks.lines)) e adds))
+        (subst (λ (w : World). AreNoted old.pred at (λ a. has_fact w (old.pred, a)) (λ a. Among (fact_with old.pred a) changes.dels)
+        (line_in old.tracks.lines) (line_in mid.tracks.lines)) e d.1)
+        (subst (λ (w : World). AreNoted old.pred at (λ a. has_fact w (old.pred, a)) (λ a. Among (fact_with old.pred a) changes.adds)
+        (line_in mid.tracks.lines) (line_in new.tracks.lines)) e adds))
 
 -- ---- the changes of all predicates
 
-pub each-at : (P : PredicateTracks → Type 0) (ts : List PredicateTracks) (i : ℕ) (t : PredicateTracks) → Each P ts → i < length ts → t ≡ get_or ts i t → P t
+pub each-at : (P : PredicateTracks → Type 0) (ts : List PredicateTracks) (i : ℕ) (t : PredicateTracks) → Each P ts → i < length ts → t ≡
+    get_or ts i t → P t
 each-at P ts i t h l q = each-among P ts t h (among-item ts i t l q)
 
 pub all-seen : (ws : List World) (ts : List PredicateTracks) → Each (IsTracked ws) ts → HaveAllSeen ts
@@ -181,20 +207,24 @@ module _ (changes : Changes) (next : World) (at : ℕ) (old : List PredicateTrac
   pub so-far-begun : SoFar changes next at 0 old old
   so-far-begun = record { size = refl; left = λ k d h. refl; told = λ ws makes h. tt }
 
-  module _ (i : ℕ) (now : List PredicateTracks) (x y : PredicateTracks) (room : i < length now) (here : x ≡ get_or now i x) (so : SoFar changes next at i old now) where
+  module _ (i : ℕ) (now : List PredicateTracks) (x y : PredicateTracks) (room : i < length now) (here : x ≡ get_or now i x)
+      (so : SoFar changes next at i old now) where
     was : x ≡ get_or old i x
     was = here ∙ so.left i x (omega arith)
 
     pub seen-here : HaveAllSeen old → HasSeenAll x
     seen-here h = let size = so.size in each-at HasSeenAll old i x h (omega arith) was
 
-    pub so-far-on : (new : List PredicateTracks) → length new ≡ length now → take (i + 1) new ≡ take i now ++ y ∷ [] → ((k : ℕ) (d : PredicateTracks) → i + 1 ≤ k → get_or new k d ≡ get_or now k d) → TracksOn changes next at x y → SoFar changes next at (i + 1) old new
+    pub so-far-on : (new : List PredicateTracks) → length new ≡ length now → take (i + 1) new ≡ take i now ++ y ∷ [] →
+        ((k : ℕ) (d : PredicateTracks) → i + 1 ≤ k → get_or new k d ≡ get_or now k d) → TracksOn changes next at x y →
+        SoFar changes next at (i + 1) old new
     so-far-on new size front left on = record {
       size = size ∙ so.size;
       left = λ k d h. left k d h ∙ so.left k d (omega arith);
       told = λ ws makes h. (
           let many = so.size in
-          each-added (IsTracked (ws ++ next ∷ [])) (take i now) (take (i + 1) new) y front (so.told ws makes h) (on ws makes (each-at (IsTracked ws) old i x h (omega arith) was))
+          each-added (IsTracked (ws ++ next ∷ [])) (take i now) (take (i + 1) new) y front (so.told ws makes h)
+          (on ws makes (each-at (IsTracked ws) old i x h (omega arith) was))
           );
     }
 
@@ -204,12 +234,14 @@ module _ (changes : Changes) (next : World) (at : ℕ) (old : List PredicateTrac
   taken (t ∷ ts) zero h = absurd (omega arith)
   taken (t ∷ ts) (suc n) h = ap (λ (us : List PredicateTracks). t ∷ us) (taken ts n (omega arith))
 
-  pub so-far-end : (i : ℕ) (now : List PredicateTracks) → length now ≤ i → SoFar changes next at i old now → TrackAllOn changes next at old now
+  pub so-far-end : (i : ℕ) (now : List PredicateTracks) → length now ≤ i → SoFar changes next at i old now →
+      TrackAllOn changes next at old now
   so-far-end i now h so ws makes k = subst (Each (IsTracked (ws ++ next ∷ []))) (taken now i h) (so.told ws makes k)
 
 -- ---- what is kept
 
-pub kept-on : (keeps : Bool) (w : World) (ws old new : List World) → old ≡ cond keeps ws [] → KeepsOne keeps w old new → new ≡ cond keeps (ws ++ w ∷ []) []
+pub kept-on : (keeps : Bool) (w : World) (ws old new : List World) → old ≡ cond keeps ws [] → KeepsOne keeps w old new → new ≡
+    cond keeps (ws ++ w ∷ []) []
 kept-on true w ws old new q h = h ∙ ap (λ (vs : List World). vs ++ w ∷ []) q
 kept-on false w ws old new q h = h ∙ q
 
@@ -217,7 +249,8 @@ pub kept-first : (keeps : Bool) (w : World) (old new : List World) → old ≡ [
 kept-first true w old new q h = h ∙ ap (λ (vs : List World). vs ++ w ∷ []) q
 kept-first false w old new q h = h ∙ q
 
-pub follows-on : (keeps : Bool) (changes : Changes) (at : ℕ) (old new : Trail) → new.world ≡ world_after old.world changes → KeepsOne keeps (world_after old.world changes) old.kept.items new.kept.items
+pub follows-on : (keeps : Bool) (changes : Changes) (at : ℕ) (old new : Trail) → new.world ≡ world_after old.world changes →
+    KeepsOne keeps (world_after old.world changes) old.kept.items new.kept.items
     → TrackAllOn changes (world_after old.world changes) at old.tracks.items new.tracks.items → FollowsOn keeps changes at old new
 follows-on keeps changes at old new world kept tracks ws size so = record {
   last = (ws, ap (λ (v : World). ws ++ v ∷ []) (sym world));
@@ -232,7 +265,8 @@ pub record Following (p : PlainProblem) (keeps : Bool) (plan : List Action) (k :
   pub size : length ws ≡ k + 1
   pub follows : Follows keeps ws t
 
-module _ (p : PlainProblem) (keeps : Bool) (plan : List Action) (k : ℕ) (ws : List World) (a : Action) (w : World) (so_far : states p (take k plan) ≡ Some ws) (l : k < length plan) (r : a ≡ get_or plan k a) (s : w ≡ get_or ws k w) where
+module _ (p : PlainProblem) (keeps : Bool) (plan : List Action) (k : ℕ) (ws : List World) (a : Action) (w : World)
+    (so_far : states p (take k plan) ≡ Some ws) (l : k < length plan) (r : a ≡ get_or plan k a) (s : w ≡ get_or ws k w) where
   pub fault-told : (x : EvalFault) → IsCausedBy (looked_by_action p w a) x → IsFollowed p keeps plan (Err (told_after k x))
   fault-told (act.Range note) h = past-here p plan k ws a w so_far l r s note h
   fault-told act.NoMemory h = tt

@@ -79,12 +79,14 @@ AreQuantifiedLabels along span frame b r = AreLabelsAlong along span frame (quan
 -- the instance under the frame's values is joined with the labels, or an operation that it looks at
 -- is noted, or the states are not all kept
 abbrev pub JoinsAlong : Along → Span → List (Option Value) → Instance → List Bool → List Bool → Result (Unit {0}) Unlabelled → Type 0
-JoinsAlong along span frame i old new r = UnlessFew along (JoinsInstance (course_along along) (states_along along) span (assignment_in frame) (quantifier_of i.binder) old new) r
+JoinsAlong along span frame i old new r = UnlessFew along (JoinsInstance (course_along along) (states_along along) span
+    (assignment_in frame) (quantifier_of i.binder) old new) r
 
 -- the labels of the part are joined with these, or an operation that it looks at is noted, or the
 -- states are not all kept
 abbrev pub JoinsPartAlong : Along → Span → List (Option Value) → Part → List Bool → List Bool → Result (Unit {0}) Unlabelled → Type 0
-JoinsPartAlong along span frame part old new r = UnlessFew along (JoinsPart (course_along along) (states_along along) span (assignment_in frame) part.junction (tree_of_formula part.formula.now) old new) r
+JoinsPartAlong along span frame part old new r = UnlessFew along (JoinsPart (course_along along) (states_along along) span
+    (assignment_in frame) part.junction (tree_of_formula part.formula.now) old new) r
 
 -- what makes the bound true in one of the states makes it true in this world
 abbrev pub GuidesAlong : Along → Bound → World → Type 0
@@ -96,11 +98,13 @@ fact_along along span k = marks_in (fact_ahead k) (states_along along) span
 
 -- the truth of the atom at each position of the span
 abbrev pub atom_along : Along → Span → List (Option Value) → ℕ → Terms → List Bool
-atom_along along span frame q ts = marks_in (true_ahead (course_along along) (assignment_in frame) (atom q (tree_of_terms ts))) (states_along along) span
+atom_along along span frame q ts = marks_in (true_ahead (course_along along) (assignment_in frame) (atom q (tree_of_terms ts)))
+    (states_along along) span
 
 -- the truth of the bound at each position of the span
 abbrev pub bound_along : Along → Span → List (Option Value) → Bound → List Bool
-bound_along along span frame b = marks_in (bound_ahead (plain_problem along.task.now.problem) (assignment_in frame) b) (states_along along) span
+bound_along along span frame b = marks_in (bound_ahead (plain_problem along.task.now.problem) (assignment_in frame) b)
+    (states_along along) span
 
 -- where there are labels, they are those of the fact
 abbrev pub GivesFactLabels : {E : Type 0} → Along → Span → Key → Result (Option (List Bool)) E → Type 0

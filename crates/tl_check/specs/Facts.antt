@@ -50,4 +50,5 @@ IsOverGoal (bound.GoalNot q xs) = Unit {0}
 
 -- what makes the bound true in one of the worlds makes it true in this one
 abbrev pub Guides : PlainProblem → List World → Bound → World → Type 0
-Guides p ws b guide = (e : Assignment) (w : World) → Among w ws → bound_true (situation_of p w) e b ≡ true → bound_true (situation_of p guide) e b ≡ true
+Guides p ws b guide = (e : Assignment) (w : World) → Among w ws → bound_true (situation_of p w) e b ≡ true →
+    bound_true (situation_of p guide) e b ≡ true

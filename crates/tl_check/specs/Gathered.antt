@@ -1,5 +1,6 @@
 -- The tuples of a bound along some states, and where each makes it true.
-use Rattle.std.specs.Prelude.{◌≡◌, ◌↔◌, ◌≤◌, ◌<◌, ◌+◌, ◌⊎◌, ℕ, List, [], ◌∷◌, ◌++◌, length, Option, Some, Result, IfOk, IfSome, true, false, slice_get}
+use Rattle.std.specs.Prelude.{◌≡◌, ◌↔◌, ◌≤◌, ◌<◌, ◌+◌, ◌⊎◌, ℕ, List, [], ◌∷◌, ◌++◌, length, Option, Some, Result, IfOk, IfSome, true, false}
+use Rattle.std.specs.Prelude.{slice_get}
 use Rattle.tl_check.specs.Lines.{truth_from, AreBefore}
 use Rattle.tl_check.specs.StatesAlong.{states_along}
 use Rattle.tl_check.specs.Tracks.{Lines, line_in, fact_with, HaveSeenAll}
@@ -66,7 +67,9 @@ IsNoted all here a old new = ((Among a all → ⊥) × (new ≡ old)) ⊎ (Among
 -- others
 abbrev pub NoteTuples : Along → List (Option Value) → Alike → Tracks → Tracks → Type 0
 NoteTuples along frame alike old new = (a : List Value)
-    → IsNoted (tuples (situation_of (plain_problem along.task.now.problem) alike.first.now) (assignment_in frame) alike.binder.vars.now alike.binder.bound.now) alike.span a (line_in old.lines (fact_with 0 a)) (line_in new.lines (fact_with 0 a))
+    → IsNoted (tuples (situation_of (plain_problem along.task.now.problem) alike.first.now)
+    (assignment_in frame) alike.binder.vars.now alike.binder.bound.now) alike.span a (line_in old.lines (fact_with 0 a))
+    (line_in new.lines (fact_with 0 a))
 
 -- the fact is that of a tuple with so many values
 abbrev pub IsTuple : ℕ → Fact → Type 0
@@ -86,14 +89,16 @@ TellWhere p ws e ss b span lines = (a : List Value) (k : ℕ) (w : World) → sp
     → (truth_from false (line_in lines (fact_with 0 a)) k ≡ true) ↔ Among a (tuples (situation_of p w) e ss b)
 
 -- so they are told, and each that holds at some position was seen
-pub record TellTuples (p : PlainProblem) (ws : List World) (e : Assignment) (ss : List Var) (b : Bound) (span : Span) (t : Tracks) : Type 0 where
+pub record TellTuples (p : PlainProblem) (ws : List World) (e : Assignment) (ss : List Var) (b : Bound) (span : Span)
+    (t : Tracks) : Type 0 where
   pub tell : TellWhere p ws e ss b span t.lines
   pub covered : HaveSeenAll t
   pub counts : Each (IsTuple (length ss)) t.seen.items
 
 -- so it is along the states of a plan
 abbrev pub AreGathered : Along → List (Option Value) → Binder → Span → Tracks → Type 0
-AreGathered along frame b span t = TellTuples (plain_problem along.task.now.problem) (states_along along) (assignment_in frame) b.vars.now b.bound.now span t
+AreGathered along frame b span t = TellTuples (plain_problem along.task.now.problem) (states_along along)
+    (assignment_in frame) b.vars.now b.bound.now span t
 
 -- where there are some, they are those
 abbrev pub GivesGathered : {E : Type 0} → Along → List (Option Value) → Binder → Span → Result (Option Tracks) E → Type 0

@@ -10,7 +10,8 @@ use Rattle.tl_terms.specs.World.{World, has_fact}
 
 -- the changes tell at the first n positions which facts of the predicate hold
 abbrev pub TellUpTo : ℕ → ℕ → List World → Lines → Type 0
-TellUpTo n q ws lines = (a : List Value) (j : ℕ) (w : World) → j < n → slice_get ws j ≡ Some w → truth_from false (line_in lines (fact_with q a)) j ≡ has_fact w (q, a)
+TellUpTo n q ws lines = (a : List Value) (j : ℕ) (w : World) → j < n → slice_get ws j ≡ Some w →
+    truth_from false (line_in lines (fact_with q a)) j ≡ has_fact w (q, a)
 
 -- the same, and every fact that has changes was seen
 pub record AreTracksUpTo (n q : ℕ) (ws : List World) (t : Tracks) : Type 0 where

@@ -19,7 +19,11 @@ instance_ahead c q e ws = cond (bound_ahead c.problem e q.bound ws) (true_ahead 
 
 -- the labels are joined with those of the instance under these values, or an operation of it is
 -- noted, which is looked at where the bound was true before
-abbrev pub JoinsInstance : Course → List World → Span → Assignment → Quantifier → List Bool → List Bool → Result (Unit {0}) CheckFault → Type 0
-JoinsInstance c ws span e q old new (Ok u) = (length new ≡ length old) × ((k : ℕ) → k < length old → slice_index_or new k false ≡ joins q.junction (slice_index_or old k false) (instance_ahead c q e (drop (span.from + k) ws)))
-JoinsInstance c ws span e q old new (Err (fault.Range k note)) = (j : ℕ) × (span.from ≤ j) × ComesAt c ws j k × (bound_ahead c.problem e q.bound (drop j ws) ≡ true) × Tells (looked_at c ws k e q.part) note
+abbrev pub JoinsInstance : Course → List World → Span → Assignment → Quantifier → List Bool → List Bool → Result (Unit {0}) CheckFault →
+    Type 0
+JoinsInstance c ws span e q old new (Ok u) = (length new ≡ length old) ×
+    ((k : ℕ) → k < length old → slice_index_or new k false ≡ joins q.junction (slice_index_or old k false)
+    (instance_ahead c q e (drop (span.from + k) ws)))
+JoinsInstance c ws span e q old new (Err (fault.Range k note)) = (j : ℕ) × (span.from ≤ j) × ComesAt c ws j k ×
+    (bound_ahead c.problem e q.bound (drop j ws) ≡ true) × Tells (looked_at c ws k e q.part) note
 JoinsInstance c ws span e q old new (Err fault.NoMemory) = Unit {0}

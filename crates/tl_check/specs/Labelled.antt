@@ -1,5 +1,6 @@
 -- What the labelling of positions answers.
-use Rattle.std.specs.Prelude.{◌≡◌, ◌≤◌, ◌+◌, ◌⊎◌, ℕ, suc, List, [], Bool, true, cond, Option, Some, None, Result, Ok, Err, length, map, nat_le, take, slice_get}
+use Rattle.std.specs.Prelude.{◌≡◌, ◌≤◌, ◌+◌, ◌⊎◌, ℕ, suc, List, [], Bool, true, cond, Option, Some, None, Result, Ok, Err, length, map}
+use Rattle.std.specs.Prelude.{nat_le, take, slice_get}
 use Rattle.tl_check.specs.Ahead.{Course, true_ahead}
 use Rattle.tl_check.specs.Passes.{joined_labels}
 use Rattle.tl_check.specs.Spans.{marks_in}
@@ -43,7 +44,8 @@ AreLabels c ws span e f (Err fault.NoMemory) = Unit {0}
 
 -- the labels of the part at the span's positions are joined with these, or an operation that it
 -- looks at is noted
-abbrev pub JoinsPart : Course → List World → Span → Assignment → Junction → FormulaTree → List Bool → List Bool → Result (Unit {0}) CheckFault → Type 0
+abbrev pub JoinsPart : Course → List World → Span → Assignment → Junction → FormulaTree → List Bool → List Bool →
+    Result (Unit {0}) CheckFault → Type 0
 JoinsPart c ws span e j f old new (Ok u) = new ≡ joined_labels j old (marks_in (true_ahead c e f) ws span)
 JoinsPart c ws span e j f old new (Err (fault.Range k note)) = ComesAt c ws span.from k × Tells (looked_at c ws k e f) note
 JoinsPart c ws span e j f old new (Err fault.NoMemory) = Unit {0}

@@ -10,4 +10,5 @@ use Rattle.tl_terms.specs.Run.{Run, Satisfies}
 -- a formula holds at the start of a run exactly where it is true ahead of its worlds; that of a
 -- plan that ends repeats the last of them
 abbrev pub TruthAheadIsSatisfaction : Type 0
-TruthAheadIsSatisfaction = (p : PlainProblem) (r : Run) (f : FormulaTree) → Satisfies p r 0 f ↔ IsTrue (true_ahead (course_of p r) no_values f (worlds_of r))
+TruthAheadIsSatisfaction = (p : PlainProblem) (r : Run) (f : FormulaTree) → Satisfies p r 0 f ↔
+    IsTrue (true_ahead (course_of p r) no_values f (worlds_of r))

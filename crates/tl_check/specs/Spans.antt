@@ -1,5 +1,6 @@
 -- Labels of the positions of a span.
-use Rattle.std.specs.Prelude.{◌≡◌, ◌<◌, ◌≤◌, ◌+◌, ◌-◌, ◌&&◌, ◌⊎◌, ℕ, List, length, take, drop, Bool, true, false, cond, Result, OnOk, nat_le, nat_lt, slice_index_or}
+use Rattle.std.specs.Prelude.{◌≡◌, ◌<◌, ◌≤◌, ◌+◌, ◌-◌, ◌&&◌, ◌⊎◌, ℕ, List, length, take, drop, Bool, true, false, cond, Result, OnOk}
+use Rattle.std.specs.Prelude.{nat_le, nat_lt, slice_index_or}
 use Rattle.tl_check.specs.Ahead.{Ahead, marks}
 use Rattle.tl_check.specs.Passes.{joins}
 use Rattle.tl_check.specs.declared.span.Span.{Span}
@@ -34,15 +35,18 @@ pub record IsOpen (j : Junction) (bs : List Bool) (span inner : Span) : Type 0 w
   pub from : span.from ≤ inner.from
   pub order : inner.from < inner.to
   pub to : inner.to ≤ span.to
-  pub decided : (k : ℕ) → k < length bs → (span.from + k < inner.from) ⊎ (inner.to ≤ span.from + k) → slice_index_or bs k false ≡ deciding_truth j
+  pub decided : (k : ℕ) → k < length bs → (span.from + k < inner.from) ⊎ (inner.to ≤ span.from + k) → slice_index_or bs k false ≡
+      deciding_truth j
 
 -- the label together with the one of the other list, where that has one and `there` is true
 abbrev pub joined_where : Junction → List Bool → List Bool → ℕ → ℕ → Bool → Bool
-joined_where j there other at k b = cond ((nat_le at k && nat_lt k (at + length other)) && slice_index_or there k false) (joins j b (slice_index_or other (k - at) false)) b
+joined_where j there other at k b = cond ((nat_le at k && nat_lt k (at + length other)) && slice_index_or there k false)
+    (joins j b (slice_index_or other (k - at) false)) b
 
 -- each label is joined in this way
 abbrev pub JoinsWhere : Junction → List Bool → List Bool → ℕ → List Bool → List Bool → Type 0
-JoinsWhere j there other at old new = (k : ℕ) → k < length old → slice_index_or new k false ≡ joined_where j there other at k (slice_index_or old k false)
+JoinsWhere j there other at old new = (k : ℕ) → k < length old → slice_index_or new k false ≡
+    joined_where j there other at k (slice_index_or old k false)
 
 -- so it is where nothing is refused
 abbrev pub AreJoinedWhere : {A E : Type 0} → Junction → List Bool → List Bool → ℕ → List Bool → List Bool → Result A E → Type 0

@@ -22,7 +22,8 @@ pub record AreNoted (q at : ℕ) (is : List Value → Bool) (is_one : List Value
 pub record TellsNext (q at : ℕ) (before : List Value → Bool) (w : World) (old new : Fact → List Change) : Type 0 where
   pub earlier : (a : List Value) (j : ℕ) → j < at → truth_from false (new (fact_with q a)) j ≡ truth_from false (old (fact_with q a)) j
   pub bounded : (a : List Value) → AreBefore (at + 1) (old (fact_with q a)) → AreBefore (at + 1) (new (fact_with q a))
-  pub told : (a : List Value) → AreBefore (at + 1) (old (fact_with q a)) → truth_from false (old (fact_with q a)) at ≡ before a → truth_from false (new (fact_with q a)) at ≡ has_fact w (q, a)
+  pub told : (a : List Value) → AreBefore (at + 1) (old (fact_with q a)) → truth_from false (old (fact_with q a)) at ≡ before a →
+      truth_from false (new (fact_with q a)) at ≡ has_fact w (q, a)
 
 -- the facts with these rows are told to hold at the first position
 abbrev pub NotesRows : ℕ → List (List Value) → Lines → Lines → Type 0

@@ -51,12 +51,14 @@ EndsIn ws w = (front : List World) × (ws ≡ front ++ w ∷ [])
 -- it is in the world
 abbrev pub NotesFact : Fact → World → ℕ → PredicateTracks → PredicateTracks → Type 0
 NotesFact fact w at old new = ((fact.pred ≡ old.pred → ⊥) × (new ≡ old))
-    ⊎ ((fact.pred ≡ old.pred) × (new.pred ≡ old.pred) × TellsOf fact (record { at = at; truth = has_fact w (fact_key fact) }) old.tracks.lines new.tracks.lines)
+    ⊎ ((fact.pred ≡ old.pred) × (new.pred ≡ old.pred) × TellsOf fact (record { at = at; truth = has_fact w (fact_key fact) })
+    old.tracks.lines new.tracks.lines)
 
 -- those of the facts that are of the predicate are noted at the position with what they are in the
 -- world
 abbrev pub NotesFacts : List Fact → World → ℕ → PredicateTracks → PredicateTracks → Type 0
-NotesFacts facts w at old new = (new.pred ≡ old.pred) × AreNoted old.pred at (λ a. has_fact w (old.pred, a)) (λ a. Among (fact_with old.pred a) facts) (line_in old.tracks.lines) (line_in new.tracks.lines)
+NotesFacts facts w at old new = (new.pred ≡ old.pred) × AreNoted old.pred at (λ a. has_fact w (old.pred, a))
+    (λ a. Among (fact_with old.pred a) facts) (line_in old.tracks.lines) (line_in new.tracks.lines)
 
 -- the next world is the one that the changes make of the last of these, of which there are so many
 pub record MakeNext (changes : Changes) (next : World) (at : ℕ) (ws : List World) : Type 0 where
@@ -71,7 +73,8 @@ abbrev pub TracksOn : Changes → World → ℕ → PredicateTracks → Predicat
 TracksOn changes next at old new = (ws : List World) → MakeNext changes next at ws → IsTracked ws old → IsTracked (ws ++ next ∷ []) new
 
 abbrev pub TrackAllOn : Changes → World → ℕ → List PredicateTracks → List PredicateTracks → Type 0
-TrackAllOn changes next at old new = (ws : List World) → MakeNext changes next at ws → Each (IsTracked ws) old → Each (IsTracked (ws ++ next ∷ [])) new
+TrackAllOn changes next at old new = (ws : List World) → MakeNext changes next at ws → Each (IsTracked ws) old →
+    Each (IsTracked (ws ++ next ∷ [])) new
 
 -- the world is kept after the others, where worlds are kept
 abbrev pub KeepsOne : Bool → World → List World → List World → Type 0
@@ -85,7 +88,8 @@ pub record Follows (keeps : Bool) (ws : List World) (t : Trail) : Type 0 where
 
 -- so it is of these and the one that the changes make of the last one, where it was of so many
 abbrev pub FollowsOn : Bool → Changes → ℕ → Trail → Trail → Type 0
-FollowsOn keeps changes at old new = (ws : List World) → length ws ≡ at → Follows keeps ws old → Follows keeps (ws ++ world_after old.world changes ∷ []) new
+FollowsOn keeps changes at old new = (ws : List World) → length ws ≡ at → Follows keeps ws old →
+    Follows keeps (ws ++ world_after old.world changes ∷ []) new
 
 -- all actions of the plan execute
 abbrev pub HasStates : PlainProblem → List Action → Type 0

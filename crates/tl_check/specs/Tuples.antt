@@ -24,12 +24,15 @@ use Rattle.tl_terms.specs.World.{World}
 
 -- these are the facts of the quantifier's tuples in the world
 abbrev pub AreTuplesIn : Along → List (Option Value) → Binder → World → List Fact → Type 0
-AreTuplesIn along frame b w fs = fs ≡ map (fact_with 0) (tuples (situation_of (plain_problem along.task.now.problem) w) (assignment_in frame) b.vars.now b.bound.now)
+AreTuplesIn along frame b w fs = fs ≡ map (fact_with 0) (tuples (situation_of (plain_problem along.task.now.problem) w)
+    (assignment_in frame) b.vars.now b.bound.now)
 
 -- each tuple that makes the bound true at a position of the span is among them, and each of them
 -- has a value for each variable
-pub record HaveTuples (p : PlainProblem) (ws : List World) (e : Assignment) (ss : List Var) (b : Bound) (span : Span) (fs : List Fact) : Type 0 where
-  pub covered : (a : List Value) (k : ℕ) (w : World) → span.from ≤ k → k < span.to → slice_get ws k ≡ Some w → Among a (tuples (situation_of p w) e ss b) → Among (fact_with 0 a) fs
+pub record HaveTuples (p : PlainProblem) (ws : List World) (e : Assignment) (ss : List Var) (b : Bound) (span : Span)
+    (fs : List Fact) : Type 0 where
+  pub covered : (a : List Value) (k : ℕ) (w : World) → span.from ≤ k → k < span.to → slice_get ws k ≡ Some w →
+      Among a (tuples (situation_of p w) e ss b) → Among (fact_with 0 a) fs
   pub counts : Each (IsTuple (length ss)) fs
 
 -- so it is of these under some values, and where they come with lines, these tell where each tuple
@@ -45,5 +48,6 @@ GivesTuples along frame b span r = IfOk r (λ found. IfSome found (AreTuples alo
 
 -- where the frame has the values of one of them, the labels are those of its bound
 abbrev pub TellsThere : {E : Type 0} → Along → Span → List (Option Value) → Tuples → Fact → Result (Option (List Bool)) E → Type 0
-TellsThere along span frame t f r = (e : Assignment) (b : Binder) → AreTuples along e b span t → DifferInSlot b.vars.now → OccurIn b.vars.now b.bound.now → IsTuple (length b.vars.now) f → assignment_in frame ≡ bind b.vars.now f.args e
+TellsThere along span frame t f r = (e : Assignment) (b : Binder) → AreTuples along e b span t → DifferInSlot b.vars.now →
+    OccurIn b.vars.now b.bound.now → IsTuple (length b.vars.now) f → assignment_in frame ≡ bind b.vars.now f.args e
     → GivesBoundLabels along span frame b.bound.now r

@@ -23,4 +23,5 @@ WaitsWithin n before r old new after =
 -- waits
 abbrev pub WaitsUntil : ℕ → Cut → List Run → List Run → ℕ → Type 0
 WaitsUntil before c old new after =
-    (bs cs : List Bool) → spread new ++ until_after after bs cs ≡ spread old ++ until_after before (replicate c.count c.left ++ bs) (replicate c.count c.right ++ cs)
+    (bs cs : List Bool) → spread new ++ until_after after bs cs ≡ spread old ++
+    until_after before (replicate c.count c.left ++ bs) (replicate c.count c.right ++ cs)

@@ -14,7 +14,8 @@ upto-zero a m b n d e = record { cheap = omega arith; short = λ _. omega arith 
 pub upto-trans : (a m b n c k : ℕ) → ComesNoLater a m b n → ComesNoLater b n c k → ComesNoLater a m c k
 upto-trans a m b n c k f g = record {
   cheap = omega (arith, f.cheap, g.cheap);
-  short = λ e. (let d : m ≤ n = f.short (omega (arith, f.cheap, g.cheap)) in let q : n ≤ k = g.short (omega (arith, f.cheap, g.cheap)) in omega arith);
+  short = λ e. (let d : m ≤ n = f.short (omega (arith, f.cheap, g.cheap)) in let q : n ≤ k = g.short (omega (arith, f.cheap, g.cheap)) in
+      omega arith);
 }
 
 -- with one more action each
@@ -37,10 +38,15 @@ upto-same a m b n c k d e f = record { cheap = omega (arith, f.cheap); short = �
 pub upto-from : (a m b n c k : ℕ) → a ≡ b → m ≡ n → ComesNoLater b n c k → ComesNoLater a m c k
 upto-from a m b n c k d e f = record { cheap = omega (arith, f.cheap); short = λ q. (let r : n ≤ k = f.short (omega arith) in omega arith) }
 
-pub plan-cost-snoc : (costs : List ℕ) (path : List Action) (a : Action) → plan_cost costs (path ++ a ∷ []) ≡ plan_cost costs path + action_cost costs a
+pub plan-cost-snoc : (costs : List ℕ) (path : List Action) (a : Action) → plan_cost costs (path ++ a ∷ []) ≡
+    plan_cost costs path + action_cost costs a
 plan-cost-snoc costs [] a = omega arith
 plan-cost-snoc costs (b ∷ path) a = let e = plan-cost-snoc costs path a in omega (arith, e)
 
 -- a way up to a path goes on to a way up to the path with one more action
-pub upto-path : (costs : List ℕ) (a m : ℕ) (path : List Action) (x : Action) → ComesNoLater a m (plan_cost costs path + action_cost costs x) (length path + 1) → ComesNoLater a m (plan_cost costs (path ++ x ∷ [])) (length (path ++ x ∷ []))
-upto-path costs a m path x f = upto-same a m (plan_cost costs path + action_cost costs x) (length path + 1) (plan_cost costs (path ++ x ∷ [])) (length (path ++ x ∷ [])) (sym (plan-cost-snoc costs path x)) (add-one (length path) ∙ sym (length-snoc path x)) f
+pub upto-path : (costs : List ℕ) (a m : ℕ) (path : List Action) (x : Action) →
+    ComesNoLater a m (plan_cost costs path + action_cost costs x) (length path + 1) →
+    ComesNoLater a m (plan_cost costs (path ++ x ∷ [])) (length (path ++ x ∷ []))
+upto-path costs a m path x f = upto-same a m (plan_cost costs path + action_cost costs x) (length path + 1)
+    (plan_cost costs (path ++ x ∷ [])) (length (path ++ x ∷ [])) (sym (plan-cost-snoc costs path x))
+    (add-one (length path) ∙ sym (length-snoc path x)) f

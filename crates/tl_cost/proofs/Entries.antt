@@ -58,10 +58,12 @@ pub adds-one : (old new : OpenList) (e : Entry) → Updates entry_cmp old.entrie
 adds-one old new e h = record { is = h.1; others = λ q n. h.2 q (not-at e q n) }
 
 -- an entry less
-pub drops-one : (old new : OpenList) (e : Entry) → Updates entry_cmp old.entries new.entries e false → Drops (is_listed old) (is_listed new) e
+pub drops-one : (old new : OpenList) (e : Entry) → Updates entry_cmp old.entries new.entries e false →
+    Drops (is_listed old) (is_listed new) e
 drops-one old new e h = record { is = h.1; others = λ q n. h.2 q (not-at e q n) }
 
-upto-by : (a b m n : ℕ) (r s t : Ordering) → MatchOrdering r (a < b) (a ≡ b) (b < a) → MatchOrdering s (m < n) (m ≡ n) (n < m) → is_gt (ordering_then r (ordering_then s t)) ≡ false → ComesNoLater a m b n
+upto-by : (a b m n : ℕ) (r s t : Ordering) → MatchOrdering r (a < b) (a ≡ b) (b < a) → MatchOrdering s (m < n) (m ≡ n) (n < m) →
+    is_gt (ordering_then r (ordering_then s t)) ≡ false → ComesNoLater a m b n
 upto-by a b m n Less s t h k e = record { cheap = omega arith; short = λ q. absurd (omega arith) }
 upto-by a b m n Equal Less t h k e = record { cheap = omega arith; short = λ q. omega arith }
 upto-by a b m n Equal Equal t h k e = record { cheap = omega arith; short = λ q. omega arith }
@@ -70,4 +72,6 @@ upto-by a b m n Greater s t h k e = let q : true ≡ false = e in let c : ⊥ = 
 
 -- the first entry comes no later than any
 pub first-one : (list : OpenList) (e : Entry) → IsLowerBound entry_cmp list.entries e → IsFirstOf (is_listed list) e
-first-one list e h q listed = upto-by e.cost q.cost e.length q.length (nat_cmp e.cost q.cost) (nat_cmp e.length q.length) (nat_cmp e.number q.number) (ranked e.cost q.cost (nat_cmp e.cost q.cost) refl) (ranked e.length q.length (nat_cmp e.length q.length) refl) (h q listed)
+first-one list e h q listed = upto-by e.cost q.cost e.length q.length (nat_cmp e.cost q.cost) (nat_cmp e.length q.length)
+    (nat_cmp e.number q.number) (ranked e.cost q.cost (nat_cmp e.cost q.cost) refl)
+    (ranked e.length q.length (nat_cmp e.length q.length) refl) (h q listed)

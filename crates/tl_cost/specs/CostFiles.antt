@@ -43,7 +43,8 @@ is_given given (Some op) = is_some (slice_index_or given op None)
 -- what a cost breaks that is given to the operator at this position, if there is one: a cost is at
 -- most 1000000
 abbrev pub cost_breaks : List (Option ℕ) → Option ℕ → ℤ → ℕ → List Break
-cost_breaks given op z at = breaks_if (is_given given op) Twice at ++ (breaks_if (not (is_within 0 1000000 z)) Limit at ++ breaks_if (not (is_some op)) NoOperator at)
+cost_breaks given op z at = breaks_if (is_given given op) Twice at ++ (breaks_if (not (is_within 0 1000000 z)) Limit at ++
+    breaks_if (not (is_some op)) NoOperator at)
 
 -- what a form breaks that has these parts
 abbrev pub parts_breaks : List (List ℕ) → List Operator → List (Option ℕ) → Option (List ℕ × ℤ) → ℕ → List Break
@@ -75,7 +76,8 @@ with_entry names operators given f = slice_set given (entry_meant names operator
 -- what forms break after forms that gave these costs
 abbrev pub entries_breaks : List (List ℕ) → List Operator → List (Option ℕ) → FormTrees → List Break
 entries_breaks names operators given no_form = []
-entries_breaks names operators given (more_forms f fs) = entry_breaks names operators given f ++ entries_breaks names operators (with_entry names operators given f) fs
+entries_breaks names operators given (more_forms f fs) = entry_breaks names operators given f ++
+    entries_breaks names operators (with_entry names operators given f) fs
 
 -- the costs that forms give after forms that gave these costs
 abbrev pub given_after : List (List ℕ) → List Operator → List (Option ℕ) → FormTrees → List (Option ℕ)

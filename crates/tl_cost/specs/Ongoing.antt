@@ -31,7 +31,8 @@ pub record IsWayTo (p : PlainProblem) (costs : List ℕ) (x : Pair) (w : Way) : 
   pub its_length : length path ≡ w.length
 
 -- the way is that of a settled pair with one more action, which leads to the pair
-pub record IsStepFrom (p : PlainProblem) (costs : List ℕ) (kept : List KeptPair) (ways : List Way) (open_ : Entry → Bool) (x : Pair) (w : Way) (last : LastStep) : Type 0 where
+pub record IsStepFrom (p : PlainProblem) (costs : List ℕ) (kept : List KeptPair) (ways : List Way) (open_ : Entry → Bool) (x : Pair)
+    (w : Way) (last : LastStep) : Type 0 where
   pub before : KeptPair
   pub its_way : Way
   pub is_at : IsAt kept ways last.from before its_way
@@ -68,7 +69,8 @@ IsTested at (Some rest) k = Unit {0}
 -- uniform-cost search (Dijkstra 1959): the pairs that are not in the open list are settled, each at
 -- its least cost and there with the fewest actions, the last at this cost and length; no pair of
 -- the open list comes before it, and what was tried leads to ways that come no later
-pub record IsOngoing (p : PlainProblem) (task : Task) (costs : List ℕ) (b : ℕ) (kept : List KeptPair) (ways : List Way) (open_ : Entry → Bool) (opened cost length_ at : ℕ) (rest : Option (List Action)) : Type 0 where
+pub record IsOngoing (p : PlainProblem) (task : Task) (costs : List ℕ) (b : ℕ) (kept : List KeptPair) (ways : List Way)
+    (open_ : Entry → Bool) (opened cost length_ at : ℕ) (rest : Option (List Action)) : Type 0 where
   pub are_kept : AreKept (pair_graph p) kept
   pub as_many : length ways ≡ length kept
   pub some : 0 < length kept
@@ -81,11 +83,17 @@ pub record IsOngoing (p : PlainProblem) (task : Task) (costs : List ℕ) (b : �
   pub short : (k : ℕ) (w : Way) → slice_get ways k ≡ Some w → w.length + opened ≤ length kept
   pub settled_short : (k : ℕ) (w : Way) → slice_get ways k ≡ Some w → open_ (entry_of w k) ≡ false → w.length + opened < length kept
   pub exact : (e : Entry) → open_ e ≡ true → (x : KeptPair) × (w : Way) × IsAt kept ways e.number x w × (e ≡ entry_of w e.number)
-  pub least : (k : ℕ) (x : KeptPair) (w : Way) → IsAt kept ways k x w → open_ (entry_of w k) ≡ false → (path : List Action) → walk (pair_graph p) path ≡ Some x.node → ComesNoLater w.cost w.length (plan_cost costs path) (length path)
-  pub below : (k : ℕ) (x : KeptPair) (w : Way) → IsAt kept ways k x w → open_ (entry_of w k) ≡ false → ComesNoLater w.cost w.length cost length_
-  pub above : (k : ℕ) (x : KeptPair) (w : Way) → IsAt kept ways k x w → open_ (entry_of w k) ≡ true → ComesNoLater cost length_ w.cost w.length
-  pub closed : (k : ℕ) (x : KeptPair) (w : Way) (a : Action) (y : Pair) → IsAt kept ways k x w → open_ (entry_of w k) ≡ false → (IsUntried at rest k a → ⊥) → (pair_graph p).after x.node a ≡ Some y → HasWay kept ways y (w.cost + action_cost costs a) (w.length + 1)
-  pub none : (k : ℕ) (x : KeptPair) (w : Way) → IsAt kept ways k x w → open_ (entry_of w k) ≡ false → IsTested at rest k → IsPairAccepted p x.node → ⊥
+  pub least : (k : ℕ) (x : KeptPair) (w : Way) → IsAt kept ways k x w → open_ (entry_of w k) ≡ false → (path : List Action) →
+      walk (pair_graph p) path ≡ Some x.node → ComesNoLater w.cost w.length (plan_cost costs path) (length path)
+  pub below : (k : ℕ) (x : KeptPair) (w : Way) → IsAt kept ways k x w → open_ (entry_of w k) ≡ false →
+      ComesNoLater w.cost w.length cost length_
+  pub above : (k : ℕ) (x : KeptPair) (w : Way) → IsAt kept ways k x w → open_ (entry_of w k) ≡ true →
+      ComesNoLater cost length_ w.cost w.length
+  pub closed : (k : ℕ) (x : KeptPair) (w : Way) (a : Action) (y : Pair) → IsAt kept ways k x w → open_ (entry_of w k) ≡ false →
+      (IsUntried at rest k a → ⊥) → (pair_graph p).after x.node a ≡ Some y →
+      HasWay kept ways y (w.cost + action_cost costs a) (w.length + 1)
+  pub none : (k : ℕ) (x : KeptPair) (w : Way) → IsAt kept ways k x w → open_ (entry_of w k) ≡ false → IsTested at rest k →
+      IsPairAccepted p x.node → ⊥
   pub cheap : (plan : List Action) → IsAccepted p plan → ComesNoLater cost length_ (plan_cost costs plan) (length plan)
 
 -- the search is between two turns
@@ -93,22 +101,27 @@ pub record IsBetweenTurns (p : PlainProblem) (task : Task) (costs : List ℕ) (b
   pub cost : ℕ
   pub length_ : ℕ
   pub at : ℕ
-  pub ongoing : IsOngoing p task costs b kept found.ways.items (is_listed found.open_list) (listed_len found.open_list) cost length_ at (Some [])
+  pub ongoing : IsOngoing p task costs b kept found.ways.items (is_listed found.open_list) (listed_len found.open_list) cost length_ at
+      (Some [])
 
 -- it is the turn of the pair of this number, which is the last that was settled, and these actions
 -- are still to be tried there
-pub record IsInTurn (p : PlainProblem) (task : Task) (costs : List ℕ) (b : ℕ) (kept : List KeptPair) (found : Found) (at : ℕ) (rest : Option (List Action)) : Type 0 where
+pub record IsInTurn (p : PlainProblem) (task : Task) (costs : List ℕ) (b : ℕ) (kept : List KeptPair) (found : Found) (at : ℕ)
+    (rest : Option (List Action)) : Type 0 where
   pub pair : KeptPair
   pub way : Way
   pub is_at : IsAt kept found.ways.items at pair way
   pub settled : is_listed found.open_list (entry_of way at) ≡ false
-  pub ongoing : IsOngoing p task costs b kept found.ways.items (is_listed found.open_list) (listed_len found.open_list) way.cost way.length at rest
+  pub ongoing : IsOngoing p task costs b kept found.ways.items (is_listed found.open_list)
+      (listed_len found.open_list) way.cost way.length at rest
 
 -- it is the turn of the pair of this number, and this action is to be tried there next
-pub record HasAction (p : PlainProblem) (task : Task) (costs : List ℕ) (b : ℕ) (kept : List KeptPair) (found : Found) (at : ℕ) (a : Action) : Type 0 where
+pub record HasAction (p : PlainProblem) (task : Task) (costs : List ℕ) (b : ℕ) (kept : List KeptPair) (found : Found) (at : ℕ)
+    (a : Action) : Type 0 where
   pub rest : List Action
   pub turn : IsInTurn p task costs b kept found at (Some (a ∷ rest))
 
 -- the action was tried, whichever are still to be tried after it
 abbrev pub IsTriedAt : PlainProblem → Task → List ℕ → ℕ → List KeptPair → List KeptPair → Found → Found → ℕ → Action → Type 0
-IsTriedAt p task costs b old new was is at a = (rest : List Action) → IsInTurn p task costs b old was at (Some (a ∷ rest)) → IsInTurn p task costs b new is at (Some rest)
+IsTriedAt p task costs b old new was is at a = (rest : List Action) → IsInTurn p task costs b old was at (Some (a ∷ rest)) →
+    IsInTurn p task costs b new is at (Some rest)

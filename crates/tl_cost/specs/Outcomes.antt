@@ -90,5 +90,6 @@ IsUnaccepted p kept at = ForPair kept at (λ x. IsPairAccepted p x.node → ⊥)
 
 -- or of that way with one more action
 abbrev pub TellsWayOn : Found → ℕ → Action → RangeNote → SearchFault → Type 0
-TellsWayOn found at a note (fault.Range path told) = (told ≡ note) × ((front : List Action) × Follows found.ways.items at front × (path ≡ front ++ a ∷ []))
+TellsWayOn found at a note (fault.Range path told) = (told ≡ note) × ((front : List Action) × Follows found.ways.items at front ×
+    (path ≡ front ++ a ∷ []))
 TellsWayOn found at a note fault.NoMemory = Unit {0}

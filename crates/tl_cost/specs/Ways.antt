@@ -53,12 +53,14 @@ IsFirstOf list e = (q : Entry) → list q ≡ true → ComesNoLater e.cost e.len
 
 -- the last step of each way is from a pair whose way is shorter by it
 abbrev pub AreLinked : List Way → Type 0
-AreLinked ways = (k : ℕ) (w : Way) (last : LastStep) → slice_get ways k ≡ Some w → w.last ≡ Some last → (v : Way) × (slice_get ways last.from ≡ Some v) × (w.length ≡ v.length + 1)
+AreLinked ways = (k : ℕ) (w : Way) (last : LastStep) → slice_get ways k ≡ Some w → w.last ≡ Some last → (v : Way) ×
+    (slice_get ways last.from ≡ Some v) × (w.length ≡ v.length + 1)
 
 -- the path goes along the last steps of the ways from the root to the pair of this number
 pub data Follows (ways : List Way) : ℕ → List Action → Type 0 where
   at_root : (k : ℕ) (w : Way) → slice_get ways k ≡ Some w → w.last ≡ None → Follows ways k []
-  onward : (k : ℕ) (w : Way) (last : LastStep) (front path : List Action) → slice_get ways k ≡ Some w → w.last ≡ Some last → Follows ways last.from front → path ≡ front ++ last.action ∷ [] → Follows ways k path
+  onward : (k : ℕ) (w : Way) (last : LastStep) (front path : List Action) → slice_get ways k ≡ Some w → w.last ≡ Some last →
+      Follows ways last.from front → path ≡ front ++ last.action ∷ [] → Follows ways k path
 
 -- the first entry has given way to the second
 pub record Moves (old new : Entry → Bool) (from to : Entry) : Type 0 where
@@ -92,7 +94,8 @@ pub record HasRoomAfter (found : Found) (at : ℕ) : Type 0 where
 pub record IsMet (costs : List ℕ) (found : Found) (w : Way) (a : Action) (k : ℕ) : Type 0 where
   pub way : Way
   pub its_way : slice_get found.ways.items k ≡ Some way
-  pub opened : ComesNoLater (w.cost + action_cost costs a) (w.length + 1) way.cost way.length → is_listed found.open_list (entry_of way k) ≡ true
+  pub opened : ComesNoLater (w.cost + action_cost costs a) (w.length + 1) way.cost way.length → is_listed found.open_list (entry_of way k) ≡
+      true
   pub exact : (e : Entry) → is_listed found.open_list e ≡ true → e.number ≡ k → e ≡ entry_of way k
 
 -- the way to the pair of number k was replaced by one that comes no later
@@ -107,8 +110,10 @@ pub record Improves (costs : List ℕ) (old new : Found) (w : Way) (at : ℕ) (a
 -- the pair of number k keeps its way, which comes no later than the new one, or has the new one,
 -- which does
 abbrev pub Meets : List ℕ → Found → Found → Way → ℕ → Action → ℕ → Way → Type 0
-Meets costs old new w at a k u = ((new ≡ old) × ComesNoLater u.cost u.length (w.cost + action_cost costs a) (w.length + 1)) ⊎ Improves costs old new w at a k u
+Meets costs old new w at a k u = ((new ≡ old) × ComesNoLater u.cost u.length (w.cost + action_cost costs a) (w.length + 1)) ⊎
+    Improves costs old new w at a k u
 
 -- so it is for the ways to the pairs of the two numbers
 abbrev pub MeetsAgain : List ℕ → Found → Found → ℕ → Action → ℕ → Type 0
-MeetsAgain costs old new at a k = (w u : Way) → slice_get old.ways.items at ≡ Some w → slice_get old.ways.items k ≡ Some u → Meets costs old new w at a k u
+MeetsAgain costs old new at a k = (w u : Way) → slice_get old.ways.items at ≡ Some w → slice_get old.ways.items k ≡ Some u →
+    Meets costs old new w at a k u

@@ -14,15 +14,22 @@ module _ {Node : Type 0} (g : ActionGraph Node) (n : ℕ) (lawful : IsLawful g) 
 
   module _ (s : IsDepthFirst g n reported met []) where
     -- what a walk of at most n actions leads to is explored as deep as the walk leaves actions
-    walks-explored : (path : List Action) (x : Node) → node_after g path ≡ Some x → length path ≤ n → (j : ℕ) × (n ≡ j + length path) × IsExplored g met j x
-    walks-explored path x e l = reach g n reported met lawful [] s.done path n g.root x (met-explored g met n g.root n s.begun (omega arith)) l e (λ front rest z p q o. o)
+    walks-explored : (path : List Action) (x : Node) → node_after g path ≡ Some x → length path ≤ n → (j : ℕ) × (n ≡ j + length path) ×
+        IsExplored g met j x
+    walks-explored path x e l = reach g n reported met lawful [] s.done path n g.root x
+        (met-explored g met n g.root n s.begun (omega arith)) l e (λ front rest z p q o. o)
 
     -- so it is kept, and was met with some remaining action where the walk has fewer than n
-    pub walks-kept : (path : List Action) (x : Node) → node_after g path ≡ Some x → length path ≤ n → (m : ℕ) × (met x ≡ Some m) × (length path < n → 0 < m)
+    pub walks-kept : (path : List Action) (x : Node) → node_after g path ≡ Some x → length path ≤ n → (m : ℕ) × (met x ≡ Some m) ×
+        (length path < n → 0 < m)
     walks-kept path x e l =
         let w = walks-explored path x e l in
-        let k = explored-kept g met w.0 x w.2 in
-        (k.0, k.1, λ p. (let o = explored-some g met w.0 x (omega (arith, w.1)) w.2 in let d : Some k.0 ≡ Some o.0 = sym k.1 ∙ o.1 in let i : k.0 ≡ o.0 = cc in omega (arith, i, o.2)))
+        let k = explored-kept g met w.0 x w.2 in (
+          k.0,
+          k.1,
+          λ p. (let o = explored-some g met w.0 x (omega (arith, w.1)) w.2 in let d : Some k.0 ≡ Some o.0 = sym k.1 ∙ o.1 in
+              let i : k.0 ≡ o.0 = cc in omega (arith, i, o.2)),
+        )
 
     -- no walk of at most n actions leads to an accepted node
     pub none-within : (path : List Action) → IsGoalWalk g n path → ⊥
@@ -38,7 +45,8 @@ module _ {Node : Type 0} (g : ActionGraph Node) (n : ℕ) (lawful : IsLawful g) 
           long = omega (arith, k.budget);
           least = λ other f. elim (dec_lt (length other) n) [
             | no h ↦ omega arith
-            | yes h ↦ absurd (let w = walks-kept other x f (omega arith) in let d : Some 0 ≡ Some w.0 = sym e ∙ w.1 in let i : 0 ≡ w.0 = cc in omega (arith, i, w.2 h))
+            | yes h ↦ absurd (let w = walks-kept other x f (omega arith) in let d : Some 0 ≡ Some w.0 = sym e ∙ w.1 in let i : 0 ≡ w.0 =
+                cc in omega (arith, i, w.2 h))
           ];
         }
 

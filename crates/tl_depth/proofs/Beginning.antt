@@ -27,7 +27,9 @@ pub record RootIsKept (p : PlainProblem) (watch : Bool) (kept : List KeptPair) (
   pub history : IsHistory p watch kept events
   pub ends : watch ≡ true → EndsByKeeping kept events
 
-pub root-kept : (p q : PlainProblem) (watch : Bool) (old new : List KeptPair) (k : ℕ) (before later : List Event) → old ≡ [] → before ≡ [] → AreKept (pair_graph q) new → RootArrives p old new (arrival.Fresh k) → later ≡ events_after watch before event.RootKept → RootIsKept p watch new later
+pub root-kept : (p q : PlainProblem) (watch : Bool) (old new : List KeptPair) (k : ℕ) (before later : List Event) → old ≡ [] → before ≡ [] →
+    AreKept (pair_graph q) new → RootArrives p old new (arrival.Fresh k) → later ≡ events_after watch before event.RootKept →
+    RootIsKept p watch new later
 root-kept p q watch old new k before later e f all h l = record {
   pair = a.1.0;
   unpruned = a.1.1;

@@ -1,5 +1,6 @@
 -- The last item of a list.
-use Rattle.std.proofs.Common.{Result, Ok, Err, OnOk, IfOk, IfErr, Bool, true, false, not, cond, ◌≡◌, ◌<◌, ◌+◌, ℕ, zero, suc, List, [], ◌∷◌, ◌++◌, length, take, slice_index_or, slice_set, Some, refl, sym, ap, ◌∙◌, subst, arith, length-append}
+use Rattle.std.proofs.Common.{Result, Ok, Err, OnOk, IfOk, IfErr, Bool, true, false, not, cond, ◌≡◌, ◌<◌, ◌+◌, ℕ, zero, suc, List, [], ◌∷◌}
+use Rattle.std.proofs.Common.{◌++◌, length, take, slice_index_or, slice_set, Some, refl, sym, ap, ◌∙◌, subst, arith, length-append}
 use Rattle.std.specs.List.{slice_get}
 use Rattle.tl_syntax.specs.Lists.{Each}
 use Rattle.tl_syntax.specs.declared.action.Action.{Action}
@@ -33,7 +34,8 @@ last-same [] (y ∷ []) u v q = cc
 last-same [] (y ∷ z ∷ vs) u v q = cc
 last-same (y ∷ []) [] u v q = cc
 last-same (y ∷ z ∷ us) [] u v q = cc
-last-same {A = A} (y ∷ us) (z ∷ vs) u v q = let h : y ≡ z = cc in let k = last-same us vs u v (let m : us ++ u ∷ [] ≡ vs ++ v ∷ [] = cc in m) in (cc (h, k.0), k.1)
+last-same {A = A} (y ∷ us) (z ∷ vs) u v q = let h : y ≡ z = cc in let k =
+    last-same us vs u v (let m : us ++ u ∷ [] ≡ vs ++ v ∷ [] = cc in m) in (cc (h, k.0), k.1)
 
 pub each-last : {A : Type 0} (P : A → Type 0) (xs : List A) (y : A) → Each P (xs ++ y ∷ []) → P y
 each-last P [] y h = h.0
@@ -51,11 +53,14 @@ take-front (y ∷ xs) x zero e = absurd (omega arith)
 take-front (y ∷ xs) x (suc i) e = ap (λ us. y ∷ us) (take-front xs x i (omega arith))
 
 -- what is read at the last place is the last level
-pub at-end : (levels front : List Level) (d now : Level) (i : ℕ) → levels ≡ front ++ d ∷ [] → suc i ≡ length levels → now ≡ slice_index_or levels i now → now ≡ d
-at-end levels front d now i e l n = n ∙ (ap (λ us. slice_index_or us i now) e ∙ index-last front d now i (omega (arith, l, ap length e, length-append front (d ∷ []))))
+pub at-end : (levels front : List Level) (d now : Level) (i : ℕ) → levels ≡ front ++ d ∷ [] → suc i ≡ length levels → now ≡
+    slice_index_or levels i now → now ≡ d
+at-end levels front d now i e l n = n ∙ (ap (λ us. slice_index_or us i now) e ∙
+    index-last front d now i (omega (arith, l, ap length e, length-append front (d ∷ []))))
 
 -- and what is written there stands in its place
-pub bumped : (levels front : List Level) (d now : Level) (i : ℕ) → levels ≡ front ++ d ∷ [] → suc i ≡ length levels → now ≡ slice_index_or levels i now
+pub bumped : (levels front : List Level) (d now : Level) (i : ℕ) → levels ≡ front ++ d ∷ [] → suc i ≡ length levels → now ≡
+    slice_index_or levels i now
     → slice_set levels i (record { at = now.at; left = now.left; actions = now.actions; tried = now.tried + 1 }) ≡ front ++ stepped d ∷ []
 bumped levels front d now i e l n =
     ap (λ us. slice_set us i (stepped now)) e
@@ -63,8 +68,10 @@ bumped levels front d now i e l n =
     ∙ ap (λ c. front ++ stepped c ∷ []) (at-end levels front d now i e l n))
 
 -- the front of levels of which the last was taken
-pub left-front : (levels front rest : List Level) (d : Level) (i : ℕ) → levels ≡ front ++ d ∷ [] → suc i ≡ length levels → rest ≡ take i levels → rest ≡ front
-left-front levels front rest d i e l r = r ∙ (ap (λ us. take i us) e ∙ take-front front d i (omega (arith, l, ap length e, length-append front (d ∷ []))))
+pub left-front : (levels front rest : List Level) (d : Level) (i : ℕ) → levels ≡ front ++ d ∷ [] → suc i ≡ length levels → rest ≡
+    take i levels → rest ≡ front
+left-front levels front rest d i e l r = r ∙ (ap (λ us. take i us) e ∙
+    take-front front d i (omega (arith, l, ap length e, length-append front (d ∷ []))))
 
 -- the last of a list that has an item
 pub last-of : {A : Type 0} (xs : List A) → 0 < length xs → (front : List A) × (x : A) × (xs ≡ front ++ x ∷ [])
@@ -82,11 +89,19 @@ event-is at a (arrival.Seen k) = (refl, refl)
 event-is at a (arrival.Fresh k) = (refl, refl)
 
 -- an event is told of the last level's next action
-pub told-of : (watch : Bool) (before after : List Event) (c : Level) (a : Action) (r : Arrival) → slice_get c.actions c.tried ≡ Some a → after ≡ events_after watch before (event_of c.at a r) → IsToldOf watch before after c
+pub told-of : (watch : Bool) (before after : List Event) (c : Level) (a : Action) (r : Arrival) → slice_get c.actions c.tried ≡ Some a →
+    after ≡ events_after watch before (event_of c.at a r) → IsToldOf watch before after c
 told-of false before after c a r q e = e
-told-of true before after c a r q e = (event_of c.at a r, e, λ b h. (let m : Some a ≡ Some b = sym q ∙ h in let k : a ≡ b = cc in subst (λ u. IsEventOf c.at u (event_of c.at a r)) k (event-is c.at a r)))
+told-of true before after c a r q e = (
+  event_of c.at a r,
+  e,
+  λ b h. (let m : Some a ≡ Some b = sym q ∙ h in let k : a ≡ b = cc in
+      subst (λ u. IsEventOf c.at u (event_of c.at a r)) k (event-is c.at a r)),
+)
 
-pub report_arrival-is : (watch : Bool) (before after : List Event) (d now : Level) (u a : Action) (r : Arrival) → now ≡ d → slice_get d.actions d.tried ≡ Some u → slice_get d.actions d.tried ≡ Some a → after ≡ events_after watch before (event_of now.at u r) → after ≡ events_after watch before (event_of d.at a r)
+pub report_arrival-is : (watch : Bool) (before after : List Event) (d now : Level) (u a : Action) (r : Arrival) → now ≡ d →
+    slice_get d.actions d.tried ≡ Some u → slice_get d.actions d.tried ≡ Some a → after ≡ events_after watch before (event_of now.at u r) →
+    after ≡ events_after watch before (event_of d.at a r)
 report_arrival-is watch before after d now u a r n p q e =
     let m : Some u ≡ Some a = sym p ∙ q in
     let k : u ≡ a = cc in
@@ -107,26 +122,32 @@ if-err (Ok x) P Q h f = tt
 if-err (Err e) P Q h f = f e h
 
 -- what was added, where it was
-pub pushed : {A : Type 0} (ok err : Bool) (old new : List A) (x : A) → new ≡ cond ok (old ++ x ∷ []) old → ok ≡ not err → err ≡ false → new ≡ old ++ x ∷ []
+pub pushed : {A : Type 0} (ok err : Bool) (old new : List A) (x : A) → new ≡ cond ok (old ++ x ∷ []) old → ok ≡ not err → err ≡ false →
+    new ≡ old ++ x ∷ []
 pushed ok err old new x e h f = e ∙ ap (λ b. cond b (old ++ x ∷ []) old) (h ∙ ap not f)
 
 -- what holds of want of memory, and of past range after the path, holds of the fault
-pub range-holds : (P : SearchFault → Type 0) (at : List Action) (note : RangeNote) (f : SearchFault) → IsFaultAfter at note f → P fault.NoMemory → ((path : List Action) → path ≡ at → P (fault.Range path note)) → P f
+pub range-holds : (P : SearchFault → Type 0) (at : List Action) (note : RangeNote) (f : SearchFault) → IsFaultAfter at note f →
+    P fault.NoMemory → ((path : List Action) → path ≡ at → P (fault.Range path note)) → P f
 range-holds P at note (fault.Range path told) h none k = subst (λ z. P (fault.Range path z)) (sym h.1) (k path h.0)
 range-holds P at note fault.NoMemory h none k = none
 
 -- ---- the top level and its next action
 
-pub top-is : (levels read front : List Level) (c now : Level) (i : ℕ) → levels ≡ front ++ c ∷ [] → read ≡ levels → suc i ≡ length levels → now ≡ slice_index_or read i now → now ≡ c
+pub top-is : (levels read front : List Level) (c now : Level) (i : ℕ) → levels ≡ front ++ c ∷ [] → read ≡ levels → suc i ≡ length levels →
+    now ≡ slice_index_or read i now → now ≡ c
 top-is levels read front c now i e r l n = at-end levels front c now i e l (n ∙ ap (λ us. slice_index_or us i now) r)
 
-pub action-is : (c now : Level) (us : List Action) (a : Action) → now ≡ c → us ≡ now.actions → a ≡ slice_index_or us now.tried a → c.tried < length c.actions → slice_get c.actions c.tried ≡ Some a
+pub action-is : (c now : Level) (us : List Action) (a : Action) → now ≡ c → us ≡ now.actions → a ≡ slice_index_or us now.tried a →
+    c.tried < length c.actions → slice_get c.actions c.tried ≡ Some a
 action-is c now us a e f n l =
     get-at c.actions c.tried a l
     ∙ ap Some (sym (n ∙ (ap (λ vs. slice_index_or vs now.tried a) f ∙ ap (λ (d : Level). slice_index_or d.actions d.tried a) e)))
 
-pub before-top : (levels read front : List Level) (c : Level) (i : ℕ) → levels ≡ front ++ c ∷ [] → read ≡ levels → suc i ≡ length levels → take i read ≡ front
-before-top levels read front c i e r l = ap (λ us. take i us) (r ∙ e) ∙ take-front front c i (omega (arith, l, ap length e, length-append front (c ∷ [])))
+pub before-top : (levels read front : List Level) (c : Level) (i : ℕ) → levels ≡ front ++ c ∷ [] → read ≡ levels → suc i ≡ length levels →
+    take i read ≡ front
+before-top levels read front c i e r l = ap (λ us. take i us) (r ∙ e) ∙
+    take-front front c i (omega (arith, l, ap length e, length-append front (c ∷ [])))
 
 pub if-ok : {A E : Type 0} (r : Result A E) (P Q : A → Type 0) → IfOk r P → ((x : A) → P x → Q x) → IfOk r Q
 if-ok (Ok x) P Q h f = f x h

@@ -25,7 +25,8 @@ module _ {Node : Type 0} (g : ActionGraph Node) where
     met-explored (suc l) y k e b = (k, e, inl b)
 
     -- a node that was met with some remaining action is explored to one more than all its successors
-    pub successors-explored : (l : ℕ) (y : Node) (k : ℕ) → met y ≡ Some k → 0 < k → ((a : Action) (z : Node) → g.next y a ≡ Some z → IsExplored g met l z) → IsExplored g met (suc l) y
+    pub successors-explored : (l : ℕ) (y : Node) (k : ℕ) → met y ≡ Some k → 0 < k →
+        ((a : Action) (z : Node) → g.next y a ≡ Some z → IsExplored g met l z) → IsExplored g met (suc l) y
     unfolding IsExplored
     successors-explored l y k e p h = (k, e, inr (p, h))
 
@@ -40,5 +41,12 @@ module _ {Node : Type 0} (g : ActionGraph Node) where
     unfolding IsExplored
     explored-on zero y e = let m = more y e.0 e.1 in (m.0, m.1)
     explored-on (suc l) y e =
-        let m = more y e.0 e.1 in
-        (m.0, m.1, elim e.2 [ inl h ↦ inl (omega (arith, h, m.2)) | inr h ↦ inr (omega (arith, h.0, m.2), λ a z n. explored-on l z (h.1 a z n)) ])
+        let m = more y e.0 e.1 in (
+          m.0,
+          m.1,
+          elim e.2 [
+            | inl h ↦ inl (omega (arith, h, m.2))
+            | inr h ↦ inr
+                (omega (arith, h.0, m.2), λ a z n. explored-on l z (h.1 a z n))
+          ],
+        )

@@ -1,5 +1,6 @@
 -- What the search needs between its steps: what is left to do falls, and lists of actions keep their sizes.
-use Rattle.std.proofs.Common.{◌≡◌, ◌≢◌, ◌≤◌, ◌<◌, ◌+◌, ◌*◌, ◌^◌, ℕ, zero, suc, List, [], ◌∷◌, ◌++◌, length, drop, set, Bool, true, false, Some, sym, ap, ◌∙◌, subst, inl, inr, arith, mul-le-mul_right}
+use Rattle.std.proofs.Common.{◌≡◌, ◌≢◌, ◌≤◌, ◌<◌, ◌+◌, ◌*◌, ◌^◌, ℕ, zero, suc, List, [], ◌∷◌, ◌++◌, length, drop, set, Bool, true, false}
+use Rattle.std.proofs.Common.{Some, sym, ap, ◌∙◌, subst, inl, inr, arith, mul-le-mul_right}
 use Rattle.std.specs.List.{slice_get}
 use Rattle.tl_syntax.specs.declared.action.Action.{Action}
 use Rattle.tl_syntax.specs.Lists.{AtLeastOne}
@@ -30,16 +31,24 @@ pub one-end : {A : Type 0} (P : A → Type 0) (xs : List A) (y : A) → P y → 
 one-end P [] y h = inl h
 one-end P (x ∷ xs) y h = inr (one-end P xs y h)
 
-pub told-reports : (watch : Bool) (before after : List Event) (top : Level) (old kept : List Pair) (from : Pair) (a : Action) → IsToldOf watch before after top → slice_get top.actions top.tried ≡ Some a → slice_get old top.at ≡ Some from
-    → ((j : ℕ) (x : Pair) → slice_get old j ≡ Some x → slice_get kept j ≡ Some x) → ReportsOneMore from a (Reported watch old before) (Reported watch kept after)
-told-reports false before after top old kept from a t e f more = record { this = λ w. absurd (let q : false ≡ true = w in cc); others = λ y b h w. absurd (let q : false ≡ true = w in cc) }
+pub told-reports : (watch : Bool) (before after : List Event) (top : Level) (old kept : List Pair) (from : Pair) (a : Action) →
+    IsToldOf watch before after top → slice_get top.actions top.tried ≡ Some a → slice_get old top.at ≡ Some from
+    → ((j : ℕ) (x : Pair) → slice_get old j ≡ Some x → slice_get kept j ≡ Some x) →
+    ReportsOneMore from a (Reported watch old before) (Reported watch kept after)
+told-reports false before after top old kept from a t e f more = record
+    { this = λ w. absurd (let q : false ≡ true = w in cc); others = λ y b h w. absurd (let q : false ≡ true = w in cc) }
 told-reports true before after top old kept from a t e f more = record {
   this = λ w. (
     top.at,
     more top.at from f,
     subst (AtLeastOne (IsEventOf top.at a)) (sym t.1) (one-end (IsEventOf top.at a) before t.0 (t.2 a e)),
   );
-  others = λ y b h w. (let k = h w in (k.0, more k.0 y k.1, subst (AtLeastOne (IsEventOf k.0 b)) (sym t.1) (one-first (IsEventOf k.0 b) before t.0 k.2)));
+  others = λ y b h w. (let k = h w in (
+    k.0,
+    more k.0 y k.1,
+    subst (AtLeastOne (IsEventOf k.0 b)) (sym t.1)
+        (one-first (IsEventOf k.0 b) before t.0 k.2),
+  ));
 }
 
 pub get-more : {A : Type 0} (xs : List A) (y : A) (j : ℕ) (x : A) → slice_get xs j ≡ Some x → slice_get (xs ++ y ∷ []) j ≡ Some x
@@ -49,17 +58,26 @@ get-more (z ∷ xs) y (suc j) x e = get-more xs y j x e
 
 -- ---- what is left to do
 
-pub height-append : (front : List Level) (c : Level) → level_height (front ++ c ∷ []) ≡ level_height front + suc (length (drop c.tried c.actions))
+pub height-append : (front : List Level) (c : Level) → level_height (front ++ c ∷ []) ≡
+    level_height front + suc (length (drop c.tried c.actions))
 height-append [] c = omega arith
 height-append (d ∷ front) c = omega (arith, height-append front c)
 
-pub height-stepped : (front : List Level) (c : Level) (a : Action) → slice_get c.actions c.tried ≡ Some a → level_height (front ++ stepped c ∷ []) < level_height (front ++ c ∷ [])
-height-stepped front c a e = omega (arith, height-append front c, height-append front (stepped c), ap length (get-rest c.actions c.tried a e))
+pub height-stepped : (front : List Level) (c : Level) (a : Action) → slice_get c.actions c.tried ≡ Some a →
+    level_height (front ++ stepped c ∷ []) < level_height (front ++ c ∷ [])
+height-stepped front c a e = omega (
+  arith,
+  height-append front c,
+  height-append front (stepped c),
+  ap length (get-rest c.actions c.tried a e),
+)
 
-pub to-do-is : (b : ℕ) (w : DepthFirst) (n : ℕ) (most : List ℕ) (levels : List Level) → w.within ≡ n → w.most.items ≡ most → w.stack.items ≡ levels → to_do b w ≡ entries_left b n most * (suc n * 2 ^ 64) + level_height levels
+pub to-do-is : (b : ℕ) (w : DepthFirst) (n : ℕ) (most : List ℕ) (levels : List Level) → w.within ≡ n → w.most.items ≡ most → w.stack.items ≡
+    levels → to_do b w ≡ entries_left b n most * (suc n * 2 ^ 64) + level_height levels
 to-do-is b w n most levels e f h =
     ap (λ x. entries_left b x w.most.items * (suc x * 2 ^ 64) + level_height w.stack.items) e
-    ∙ (ap (λ x. entries_left b n x * (suc n * 2 ^ 64) + level_height w.stack.items) f ∙ ap (λ x. entries_left b n most * (suc n * 2 ^ 64) + level_height x) h)
+    ∙ (ap (λ x. entries_left b n x * (suc n * 2 ^ 64) + level_height w.stack.items) f ∙
+    ap (λ x. entries_left b n most * (suc n * 2 ^ 64) + level_height x) h)
 
 pub less-pass : (e d k h i : ℕ) → d ≤ e → i < h → d * k + i < e * k + h
 less-pass e d k h i l m = let q : d * k ≤ e * k = mul-le-mul_right k l in omega (arith, q)
@@ -68,10 +86,13 @@ pub less-enter : (e d k h i : ℕ) → d < e → i < k → d * k + i < e * k + h
 less-enter e d k h i l m = let q : suc d * k ≤ e * k = mul-le-mul_right k l in omega (arith, q)
 
 -- the levels of a search are not high
-pub low : (p : PlainProblem) (n : ℕ) (reported : Reports Pair) (kept : List Pair) (most : List ℕ) (levels : List Level) (calls : ℕ) → IsRunning pair_discrete (graph_of p) n reported kept most levels calls → AreSized levels → level_height levels < suc n * 2 ^ 64
+pub low : (p : PlainProblem) (n : ℕ) (reported : Reports Pair) (kept : List Pair) (most : List ℕ) (levels : List Level) (calls : ℕ) →
+    IsRunning pair_discrete (graph_of p) n reported kept most levels calls → AreSized levels → level_height levels < suc n * 2 ^ 64
 low p n reported kept most levels calls r z =
-    let h : height (frames_of kept (graph_of p).root levels []) ≡ level_height levels + 0 = frames-height kept (graph_of p).root levels [] in
-    let b = height-bounded (graph_of p) n reported (met_in pair_discrete kept most) (frames_of kept (graph_of p).root levels []) r.searching (frames-sized kept (graph_of p).root levels [] z tt) in
+    let h : height (frames_of kept (graph_of p).root levels []) ≡ level_height levels + 0 =
+    frames-height kept (graph_of p).root levels [] in
+    let b = height-bounded (graph_of p) n reported (met_in pair_discrete kept most) (frames_of kept (graph_of p).root levels []) r.searching
+    (frames-sized kept (graph_of p).root levels [] z tt) in
     omega (arith, h, b)
 
 -- ---- no pair was met with no remaining action
@@ -91,9 +112,11 @@ uncut-pushed (m ∷ most) r p u (suc j) e = uncut-pushed most r p (λ i f. u (su
 
 -- ---- a search that goes on
 
-pub ongoing : (p : PlainProblem) (b n : ℕ) (watch : Bool) (kept : List Pair) (events : List Event) (most : List ℕ) (levels : List Level) (calls : ℕ) (w : DepthFirst) → (first_pair p).formula ≢ falsum
+pub ongoing : (p : PlainProblem) (b n : ℕ) (watch : Bool) (kept : List Pair) (events : List Event) (most : List ℕ) (levels : List Level)
+    (calls : ℕ) (w : DepthFirst) → (first_pair p).formula ≢ falsum
     → IsRunning pair_discrete (graph_of p) n (Reported watch kept events) kept most levels calls → length kept ≤ b → AreSized levels
-    → (w.reenters ≡ false → IsUncut most) → (watch ≡ true → w.reenters ≡ true) → (watch ≡ true → IsFollowed p n kept most levels events) → w.within ≡ n → w.watch ≡ watch → w.events ≡ events → w.most.items ≡ most → w.stack.items ≡ levels → IsOngoing p b kept w calls
+    → (w.reenters ≡ false → IsUncut most) → (watch ≡ true → w.reenters ≡ true) → (watch ≡ true → IsFollowed p n kept most levels events) →
+    w.within ≡ n → w.watch ≡ watch → w.events ≡ events → w.most.items ≡ most → w.stack.items ≡ levels → IsOngoing p b kept w calls
 ongoing p b n watch kept events most levels calls w u r f z c enters followed wn ww we wm ws = record {
   unpruned = u;
   running =

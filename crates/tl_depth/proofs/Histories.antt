@@ -26,12 +26,16 @@ use Rattle.tl_depth.specs.Endings.{KeepsLast}
 use Rattle.tl_depth.specs.Outcomes.{IsDepthFirstFault}
 use Rattle.tl_depth.proofs.SeenPairs.{number-kept}
 
-pub keeps-last : (watch : Bool) (old new : List KeptPair) (at : ℕ) (a : Action) (o : Option Pair) (path : List Action) (r : Arrival) (events later : List Event) → Arrives old new o path r → later ≡ events_after watch events (event_of at a r) → KeepsLast watch new later r
+pub keeps-last : (watch : Bool) (old new : List KeptPair) (at : ℕ) (a : Action) (o : Option Pair) (path : List Action) (r : Arrival)
+    (events later : List Event) → Arrives old new o path r → later ≡ events_after watch events (event_of at a r) →
+    KeepsLast watch new later r
 keeps-last watch old new at a o path arrival.Pruned events later h l = tt
 keeps-last watch old new at a o path (arrival.Seen k) events later h l = tt
-keeps-last watch old new at a o path (arrival.Fresh k) events later h l = ends-by-keeping watch old new events later at a k (record { node = h.1.0; path = path }) h.0 h.1.3 l
+keeps-last watch old new at a o path (arrival.Fresh k) events later h l =
+    ends-by-keeping watch old new events later at a k (record { node = h.1.0; path = path }) h.0 h.1.3 l
 
-pub ends-any : (watch : Bool) (kept : List KeptPair) (events : List Event) (o : Outcome) → (watch ≡ true → EndsByKeeping kept events) → Ends watch kept events o
+pub ends-any : (watch : Bool) (kept : List KeptPair) (events : List Event) (o : Outcome) → (watch ≡ true → EndsByKeeping kept events) →
+    Ends watch kept events o
 ends-any watch kept events (outcome.Plan plan) h = h
 ends-any watch kept events outcome.NoPlan h = tt
 ends-any watch kept events outcome.NoneWithin h = tt
@@ -43,17 +47,23 @@ there kept at l = get-inside kept at (number-kept kept at l)
 
 -- where nothing is kept, nothing was seen
 pub root-not-seen : (old new : List KeptPair) (o : Option Pair) (k : ℕ) → old ≡ [] → Arrives old new o [] (arrival.Seen k) → ⊥
-root-not-seen old new o k e h = let z : slice_get [] k ≡ Some h.1.0 = subst (λ us. slice_get us k ≡ Some h.1.0) e h.1.1 in let q : ⊥ = cc in q
+root-not-seen old new o k e h = let z : slice_get [] k ≡ Some h.1.0 = subst (λ us. slice_get us k ≡ Some h.1.0) e h.1.1 in let q : ⊥ = cc in
+    q
 
 -- ---- the same elsewhere
 
-pub as-history : (p q : PlainProblem) (watch seen : Bool) (kept more : List KeptPair) (events later : List Event) → p ≡ q → watch ≡ seen → kept ≡ more → events ≡ later → IsHistory p watch kept events → IsHistory q seen more later
-as-history p q watch seen kept more events later e f h i s = subst (λ z. IsHistory q seen more z) i (subst (λ z. IsHistory q seen z events) h (subst (λ z. IsHistory q z kept events) f (subst (λ z. IsHistory z watch kept events) e s)))
+pub as-history : (p q : PlainProblem) (watch seen : Bool) (kept more : List KeptPair) (events later : List Event) → p ≡ q → watch ≡ seen →
+    kept ≡ more → events ≡ later → IsHistory p watch kept events → IsHistory q seen more later
+as-history p q watch seen kept more events later e f h i s = subst (λ z. IsHistory q seen more z) i
+    (subst (λ z. IsHistory q seen z events) h (subst (λ z. IsHistory q z kept events) f (subst (λ z. IsHistory z watch kept events) e s)))
 
-pub as-ends : (watch seen : Bool) (kept more : List KeptPair) (events later : List Event) (o : Option Outcome) → watch ≡ seen → kept ≡ more → events ≡ later → EndsIfAny watch kept events o → EndsIfAny seen more later o
-as-ends watch seen kept more events later o f h i s = subst (λ z. EndsIfAny seen more z o) i (subst (λ z. EndsIfAny seen z events o) h (subst (λ z. EndsIfAny z kept events o) f s))
+pub as-ends : (watch seen : Bool) (kept more : List KeptPair) (events later : List Event) (o : Option Outcome) → watch ≡ seen → kept ≡
+    more → events ≡ later → EndsIfAny watch kept events o → EndsIfAny seen more later o
+as-ends watch seen kept more events later o f h i s = subst (λ z. EndsIfAny seen more z o) i
+    (subst (λ z. EndsIfAny seen z events o) h (subst (λ z. EndsIfAny z kept events o) f s))
 
-pub as-keeps : (watch seen : Bool) (kept : List KeptPair) (events : List Event) (r : Arrival) → watch ≡ seen → KeepsLast watch kept events r → KeepsLast seen kept events r
+pub as-keeps : (watch seen : Bool) (kept : List KeptPair) (events : List Event) (r : Arrival) → watch ≡ seen →
+    KeepsLast watch kept events r → KeepsLast seen kept events r
 as-keeps watch seen kept events r f s = subst (λ z. KeepsLast z kept events r) f s
 
 -- ---- a calm search

@@ -1,10 +1,12 @@
 -- A node is met with more remaining actions than ever before.
 use Rattle.std.specs.Prelude.{IsTrue}
-use Rattle.std.proofs.Common.{◌≡◌, ◌≢◌, ◌≤◌, ◌<◌, ◌+◌, ℕ, zero, suc, List, [], ◌∷◌, ◌++◌, length, Some, None, sym, ap, ◌∙◌, subst, inl, inr, length-append, arith}
+use Rattle.std.proofs.Common.{◌≡◌, ◌≢◌, ◌≤◌, ◌<◌, ◌+◌, ℕ, zero, suc, List, [], ◌∷◌, ◌++◌, length, Some, None, sym, ap, ◌∙◌, subst, inl, inr}
+use Rattle.std.proofs.Common.{length-append, arith}
 use Rattle.tl_syntax.specs.declared.action.Action.{Action}
 use Rattle.tl_syntax.specs.Lists.{Each}
 use Rattle.tl_depth.specs.ActionGraphs.{ActionGraph, IsLawful, AreActionsOf, node_after}
-use Rattle.tl_depth.specs.Search.{Memory, Reports, Frame, at_hand, gone, advanced, entered, IsExplored, IsCovered, IsDone, AreFrames, IsOnStack, IsKept, IsDepthFirst, IsMet, IsDeeper}
+use Rattle.tl_depth.specs.Search.{Memory, Reports, Frame, at_hand, gone, advanced, entered, IsExplored, IsCovered, IsDone, AreFrames}
+use Rattle.tl_depth.specs.Search.{IsOnStack, IsKept, IsDepthFirst, IsMet, IsDeeper}
 use Rattle.tl_depth.proofs.ListFacts.{each_map}
 use Rattle.tl_depth.proofs.WalkLaws.{walk-last, walk-nothing, simple-empty}
 use Rattle.tl_depth.proofs.OrderFacts.{none-before}
@@ -14,7 +16,8 @@ use Rattle.tl_depth.proofs.SearchSteps.{leading-next, advance}
 
 module _ {Node : Type 0} (same : Discrete Node) (g : ActionGraph Node) (n : ℕ) (lawful : IsLawful g) (reported : Reports Node) where
   -- each node on the stack was met with at least as many remaining actions as the top frame has
-  pub lefts : (met : Memory Node) (f : Frame Node) (below : List (Frame Node)) → AreFrames g n reported met (f ∷ below) → (x : Node) → IsOnStack (f ∷ below) x → (m : ℕ) × (met x ≡ Some m) × (f.left ≤ m)
+  pub lefts : (met : Memory Node) (f : Frame Node) (below : List (Frame Node)) → AreFrames g n reported met (f ∷ below) → (x : Node) →
+      IsOnStack (f ∷ below) x → (m : ℕ) × (met x ≡ Some m) × (f.left ≤ m)
   lefts met f [] s x o = elim o [ inl e ↦ (f.left, ap met (sym e) ∙ s.0.most, omega arith) | inr b ↦ absurd b ]
   lefts met f (h ∷ below) s x o = elim o [
     | inl e ↦ (f.left, ap met (sym e) ∙ s.0.most, omega arith)
@@ -23,11 +26,14 @@ module _ {Node : Type 0} (same : Discrete Node) (g : ActionGraph Node) (n : ℕ)
     where
       more : ((m : ℕ) × (met x ≡ Some m) × (h.left ≤ m)) → (m : ℕ) × (met x ≡ Some m) × (f.left ≤ m)
       more w =
-          let longer : length (gone (h ∷ below)) ≡ length (gone below) + 1 = ap length (gone-under g n reported met h below s.2.0) ∙ length-append (gone below) (s.2.0.action ∷ []) in
+          let longer : length (gone (h ∷ below)) ≡ length (gone below) + 1 = ap length (gone-under g n reported met h below s.2.0) ∙
+          length-append (gone below) (s.2.0.action ∷ []) in
           (w.0, w.1, omega (arith, s.0.budget, s.3.0.budget, w.2))
 
-  -- while no node was met with no remaining action, each kept one is explored as deep as the top frame has remaining actions: its successors are kept, and what is on the stack was met with as many
-  pub uncut-explored : (met : Memory Node) (f : Frame Node) (below : List (Frame Node)) → IsDepthFirst g n reported met (f ∷ below) → ((x : Node) → met x ≡ Some 0 → ⊥)
+  -- while no node was met with no remaining action, each kept one is explored as deep as the top frame has remaining actions: its
+  -- successors are kept, and what is on the stack was met with as many
+  pub uncut-explored : (met : Memory Node) (f : Frame Node) (below : List (Frame Node)) → IsDepthFirst g n reported met (f ∷ below) →
+      ((x : Node) → met x ≡ Some 0 → ⊥)
       → (l : ℕ) → l ≤ f.left → (x : Node) (m : ℕ) → met x ≡ Some m → IsExplored g met l x
   uncut-explored met f below s uncut zero b x m e = met-explored g met zero x m e (omega arith)
   uncut-explored met f below s uncut (suc l) b x m e =
@@ -50,7 +56,8 @@ module _ {Node : Type 0} (same : Discrete Node) (g : ActionGraph Node) (n : ℕ)
     covered-on : (x : Node) (m : ℕ) (a : Action) → IsCovered g before x m a → IsCovered g after x m a
     covered-on x m a c y e l b = explored-on g before after grows l y (c y e l b)
 
-    frames-on : (stack : List (Frame Node)) → (IsOnStack stack q → ⊥) → AreFrames g n reported before stack → AreFrames g n reported after stack
+    frames-on : (stack : List (Frame Node)) → (IsOnStack stack q → ⊥) → AreFrames g n reported before stack →
+        AreFrames g n reported after stack
     frames-on [] off s = tt
     frames-on (f ∷ below) off s = (
       record {
@@ -68,7 +75,9 @@ module _ {Node : Type 0} (same : Discrete Node) (g : ActionGraph Node) (n : ℕ)
       frames-on below (λ o. off (inr o)) s.3,
     )
 
-    module _ (f : Frame Node) (below : List (Frame Node)) (a : Action) (later : List Action) (s : IsDepthFirst g n reported before (f ∷ below)) (r-rest : f.rest ≡ a ∷ later) (leads : g.next f.node a ≡ Some q) (fewer : suc r ≡ f.left) (refused : g.Accepts q → ⊥) where
+    module _ (f : Frame Node) (below : List (Frame Node)) (a : Action) (later : List Action)
+        (s : IsDepthFirst g n reported before (f ∷ below)) (r-rest : f.rest ≡ a ∷ later) (leads : g.next f.node a ≡ Some q)
+        (fewer : suc r ≡ f.left) (refused : g.Accepts q → ⊥) where
       -- the node is not on the stack
       pub off-stack : IsOnStack (f ∷ below) q → ⊥
       off-stack o = let w = lefts before f below s.frames q o in let d : w.0 < r = deeper w.0 w.1 in omega (arith, w.2)
@@ -76,13 +85,14 @@ module _ {Node : Type 0} (same : Discrete Node) (g : ActionGraph Node) (n : ℕ)
       kept-on : (x : Node) (m : ℕ) → after x ≡ Some m → IsKept g n x m
       kept-on x m e = elim (same x q) [
         | no d ↦ s.kept x m (sym (news.others x d) ∙ e)
-        | yes i ↦ subst (λ y. IsKept g n y m) (sym i) (subst (IsKept g n q) (let d : Some r ≡ Some m = sym news.this ∙ (ap after (sym i) ∙ e) in let j : r ≡ m = cc in j) (record {
-          refused = refused;
-          path = gone below ++ a ∷ [];
-          ends = walk-last g (gone below) a f.node s.frames.0.ends ∙ leads;
-          budget = omega (arith, length-append (gone below) (a ∷ []), s.frames.0.budget);
-          leading = leading-next g n lawful reported before f below a later q s r-rest leads off-stack;
-        }))
+        | yes i ↦ subst (λ y. IsKept g n y m) (sym i) (subst (IsKept g n q)
+            (let d : Some r ≡ Some m = sym news.this ∙ (ap after (sym i) ∙ e) in let j : r ≡ m = cc in j) (record {
+              refused = refused;
+              path = gone below ++ a ∷ [];
+              ends = walk-last g (gone below) a f.node s.frames.0.ends ∙ leads;
+              budget = omega (arith, length-append (gone below) (a ∷ []), s.frames.0.budget);
+              leading = leading-next g n lawful reported before f below a later q s r-rest leads off-stack;
+            }))
       ]
 
       begun-on : after g.root ≡ Some n
@@ -93,7 +103,9 @@ module _ {Node : Type 0} (same : Discrete Node) (g : ActionGraph Node) (n : ℕ)
 
       -- it is done with, and the frame goes on
       meet-done : (0 < r → IsDone g reported after q r) → reported f.node a → IsDepthFirst g n reported after (advanced f a later ∷ below)
-      meet-done own t = advance g n lawful reported after f below a later met-now r-rest (λ y e l b. met-explored g after l y r (ap after (let d : Some q ≡ Some y = sym leads ∙ e in let i : y ≡ q = cc in i) ∙ news.this) (omega arith)) t
+      meet-done own t = advance g n lawful reported after f below a later met-now r-rest
+          (λ y e l b. met-explored g after l y r (ap after (let d : Some q ≡ Some y = sym leads ∙ e in let i : y ≡ q = cc in i) ∙ news.this)
+          (omega arith)) t
         where
           this : (x : Node) (m : ℕ) → x ≡ q → after x ≡ Some m → 0 < m → IsDone g reported after x m
           this x m i e p =
@@ -107,7 +119,11 @@ module _ {Node : Type 0} (same : Discrete Node) (g : ActionGraph Node) (n : ℕ)
             kept = kept-on;
             done = λ x m e p. elim (same x q) [
               | yes i ↦ inr (this x m i e p)
-              | no d ↦ elim (s.done x m (sym (news.others x d) ∙ e) p) [ inl o ↦ inl o | inr c ↦ inr (λ b t. (covered-on x m b (c b t).0, (c b t).1)) ]
+              | no d ↦ elim (s.done x m (sym (news.others x d) ∙ e) p) [
+                | inl o ↦ inl o
+                | inr c ↦ inr
+                    (λ b t. (covered-on x m b (c b t).0, (c b t).1))
+              ]
             ];
             begun = begun-on;
           }
@@ -117,7 +133,8 @@ module _ {Node : Type 0} (same : Discrete Node) (g : ActionGraph Node) (n : ℕ)
       meet-last z t = meet-done (λ p. absurd (omega arith)) t
 
       -- it is kept, and no node was met with none: all that it leads to within r actions is explored already
-      pub meet-kept : (k : ℕ) → before q ≡ Some k → ((x : Node) → before x ≡ Some 0 → ⊥) → reported f.node a → IsDepthFirst g n reported after (advanced f a later ∷ below)
+      pub meet-kept : (k : ℕ) → before q ≡ Some k → ((x : Node) → before x ≡ Some 0 → ⊥) → reported f.node a →
+          IsDepthFirst g n reported after (advanced f a later ∷ below)
       meet-kept k at uncut t = meet-done (λ p. own) t
         where
           some : 0 < k
@@ -135,12 +152,18 @@ module _ {Node : Type 0} (same : Discrete Node) (g : ActionGraph Node) (n : ℕ)
           own = elim (s.done q k at some) [ inl o ↦ absurd (off-stack o) | inr c ↦ deep c ]
 
       -- it is met with some remaining action, and entered
-      pub meet-entered : 0 < r → reported f.node a → (actions : List Action) → AreActionsOf g q actions → IsDepthFirst g n reported after (entered q r actions ∷ f ∷ below)
+      pub meet-entered : 0 < r → reported f.node a → (actions : List Action) → AreActionsOf g q actions →
+          IsDepthFirst g n reported after (entered q r actions ∷ f ∷ below)
       meet-entered p t actions all = record {
         frames = (
           record {
             ends = ap (λ us. node_after g (gone below ++ at_hand us)) r-rest ∙ (walk-last g (gone below) a f.node s.frames.0.ends ∙ leads);
-            budget = omega (arith, ap (λ us. length (gone below ++ at_hand us)) r-rest, length-append (gone below) (a ∷ []), s.frames.0.budget);
+            budget = omega (
+              arith,
+              ap (λ us. length (gone below ++ at_hand us)) r-rest,
+              length-append (gone below) (a ∷ []),
+              s.frames.0.budget,
+            );
             some = p;
             all = all;
             most = news.this;
@@ -155,7 +178,11 @@ module _ {Node : Type 0} (same : Discrete Node) (g : ActionGraph Node) (n : ℕ)
         kept = kept-on;
         done = λ x m e z. elim (same x q) [
           | yes i ↦ inl (inl (sym i))
-          | no d ↦ elim (s.done x m (sym (news.others x d) ∙ e) z) [ inl o ↦ inl (inr o) | inr c ↦ inr (λ b t. (covered-on x m b (c b t).0, (c b t).1)) ]
+          | no d ↦ elim (s.done x m (sym (news.others x d) ∙ e) z) [
+            | inl o ↦ inl (inr o)
+            | inr c ↦ inr
+                (λ b t. (covered-on x m b (c b t).0, (c b t).1))
+          ]
         ];
         begun = begun-on;
       }
@@ -166,17 +193,19 @@ module _ {Node : Type 0} (same : Discrete Node) (g : ActionGraph Node) (n : ℕ)
 
   -- ---- the first node
 
-  module _ (met : Memory Node) (this : met g.root ≡ Some n) (others : (x : Node) → x ≢ g.root → met x ≡ None) (refused : g.Accepts g.root → ⊥) where
+  module _ (met : Memory Node) (this : met g.root ≡ Some n) (others : (x : Node) → x ≢ g.root → met x ≡ None)
+      (refused : g.Accepts g.root → ⊥) where
     root-kept : (x : Node) (m : ℕ) → met x ≡ Some m → IsKept g n x m
     root-kept x m e = elim (same x g.root) [
       | no d ↦ absurd (let o = others x d in cc)
-      | yes i ↦ subst (λ y. IsKept g n y m) (sym i) (subst (IsKept g n g.root) (let d : Some n ≡ Some m = sym this ∙ (ap met (sym i) ∙ e) in let j : n ≡ m = cc in j) (record {
-        refused = refused;
-        path = [];
-        ends = walk-nothing g (Some g.root);
-        budget = omega arith;
-        leading = record { short = omega arith; simple = simple-empty g; first = λ other w l. none-before other l };
-      }))
+      | yes i ↦ subst (λ y. IsKept g n y m) (sym i) (subst (IsKept g n g.root)
+          (let d : Some n ≡ Some m = sym this ∙ (ap met (sym i) ∙ e) in let j : n ≡ m = cc in j) (record {
+            refused = refused;
+            path = [];
+            ends = walk-nothing g (Some g.root);
+            budget = omega arith;
+            leading = record { short = omega arith; simple = simple-empty g; first = λ other w l. none-before other l };
+          }))
     ]
 
     -- with no action to take, all is done
@@ -189,10 +218,21 @@ module _ {Node : Type 0} (same : Discrete Node) (g : ActionGraph Node) (n : ℕ)
     }
 
     -- and else the first node is entered
-    pub begin-entered : 0 < n → (actions : List Action) → AreActionsOf g g.root actions → IsDepthFirst g n reported met (entered g.root n actions ∷ [])
+    pub begin-entered : 0 < n → (actions : List Action) → AreActionsOf g g.root actions →
+        IsDepthFirst g n reported met (entered g.root n actions ∷ [])
     begin-entered p actions all = record {
       frames = (
-        record { ends = walk-nothing g (Some g.root); budget = omega arith; some = p; all = all; most = this; covered = tt; fruitless = tt; told = tt },
+        record {
+          ends = walk-nothing g (Some g.root);
+          budget = omega arith;
+          some = p;
+          all = all;
+          most = this;
+          covered = tt;
+          fruitless =
+              tt;
+          told = tt;
+        },
         tt,
         tt,
         tt,

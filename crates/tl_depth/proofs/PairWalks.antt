@@ -1,6 +1,7 @@
 -- The walks of the graph of pairs are the open paths.
 use Rattle.std.specs.Prelude.{IsSome, is_some}
-use Rattle.std.proofs.Common.{◌≡◌, ◌≢◌, ◌↔◌, ◌≤◌, ℕ, List, [], ◌∷◌, ◌++◌, length, true, Option, Some, None, true≢false, refl, sym, ap, ◌∙◌, subst}
+use Rattle.std.proofs.Common.{◌≡◌, ◌≢◌, ◌↔◌, ◌≤◌, ℕ, List, [], ◌∷◌, ◌++◌, length, true, Option, Some, None, true≢false, refl, sym, ap, ◌∙◌}
+use Rattle.std.proofs.Common.{subst}
 use Rattle.std.specs.Option.{option_map}
 use Rattle.tl_syntax.specs.declared.action.Action.{Action}
 use Rattle.tl_syntax.specs.Trees.{FormulaTree, falsum, verum}
@@ -18,7 +19,8 @@ use Rattle.tl_search.specs.Graphs as search
 use Rattle.tl_search.specs.Graphs.{walk_from}
 use Rattle.tl_search.specs.PairGraph.{pair_graph}
 use Rattle.tl_search.proofs.PathLaws.{pair-first, unless-pruned, walk-pair, walk-open, prefix-open}
-use Rattle.tl_depth.specs.ActionGraphs.{IsLawful, AreActionsOf, walked, node_after, IsSimpleWalk, IsGoalWalk, IsSimpleGoalWalk, IsLeadingWalk, IsWalkDistance}
+use Rattle.tl_depth.specs.ActionGraphs.{IsLawful, AreActionsOf, walked, node_after, IsSimpleWalk, IsGoalWalk, IsSimpleGoalWalk}
+use Rattle.tl_depth.specs.ActionGraphs.{IsLeadingWalk, IsWalkDistance}
 use Rattle.tl_search.specs.PairGraph.{pair_in, next_pair, unless_pruned}
 use Rattle.tl_depth.specs.PairGraph.{first_pair, graph_of}
 use Rattle.tl_search.specs.ListedActions.{ListsActions}
@@ -42,7 +44,8 @@ module _ (p : PlainProblem) where
     -- where the first pair is not pruned, the walks are those of the pairs' search graph
     same-walk : (path : List Action) → node_after (graph_of p) path ≡ search.walk (pair_graph p) path
     unfolding graph_of pair_graph
-    same-walk path = same-from p (Some (first_pair p)) path ∙ ap (λ o. walk_from (pair_graph p) o path) (sym ((unless-pruned (pair_of p []) (first_pair p)).1 (pair-first p, unpruned)))
+    same-walk path = same-from p (Some (first_pair p)) path ∙ ap (λ o. walk_from (pair_graph p) o path)
+        (sym ((unless-pruned (pair_of p []) (first_pair p)).1 (pair-first p, unpruned)))
 
     -- a walk leads to a pair exactly where it is an open path with that pair
     pub walks-open : (path : List Action) (y : Pair) → node_after (graph_of p) path ≡ Some y ↔ (IsOpen p path × (pair_of p path ≡ Some y))
@@ -75,7 +78,13 @@ module _ (p : PlainProblem) where
     unfolding graph_of
     goal-walks n path = (
       λ w. (w.short, (accepted-exactly p path).1 (w.last, ((walks-open path w.last).0 w.ends).1, w.accepted)),
-      λ h. (let a = (accepted-exactly p path).0 h.1 in record { short = h.0; last = a.0; ends = (walks-open path a.0).1 (accepted-open path h.1, a.1); accepted = a.2 }),
+      λ h. (let a = (accepted-exactly p path).0 h.1 in record {
+        short = h.0;
+        last = a.0;
+        ends =
+            (walks-open path a.0).1 (accepted-open path h.1, a.1);
+        accepted = a.2;
+      }),
     )
 
     -- the simple walks are the open paths that repeat no pair
@@ -86,13 +95,15 @@ module _ (p : PlainProblem) where
         record {
           executes = o.executes;
           differ = λ front rest other left e f q. s.differ front rest other left e f
-              (open-walks front (open-front front rest (subst (IsOpen p) (sym e) o)) ∙ (q ∙ sym (open-walks other (open-front other left (subst (IsOpen p) (sym f) o)))));
+              (open-walks front (open-front front rest (subst (IsOpen p) (sym e) o)) ∙
+              (q ∙ sym (open-walks other (open-front other left (subst (IsOpen p) (sym f) o)))));
         },
       )),
       λ h. record {
         walks = ap is_some (open-walks path h.0) ∙ h.1.executes;
         differ = λ front rest other left e f q. h.1.differ front rest other left e f
-            (sym (open-walks front (open-front front rest (subst (IsOpen p) (sym e) h.0))) ∙ (q ∙ open-walks other (open-front other left (subst (IsOpen p) (sym f) h.0))));
+            (sym (open-walks front (open-front front rest (subst (IsOpen p) (sym e) h.0))) ∙
+            (q ∙ open-walks other (open-front other left (subst (IsOpen p) (sym f) h.0))));
       },
     )
       where
@@ -101,8 +112,13 @@ module _ (p : PlainProblem) where
         open-of (Some x) e s = open-from-walk path x e
 
     -- a simple accepted plan is a simple walk to an accepted pair
-    pub simple-goal-walks : (n : ℕ) (path : List Action) → length path ≤ n → IsSimple p path → IsAccepted p path → IsSimpleGoalWalk (graph_of p) n path
-    simple-goal-walks n path l s a = record { reaches = (goal-walks n path).1 (l, a); simple = (simple-walks path).1 (accepted-open path a, s) }
+    pub simple-goal-walks : (n : ℕ) (path : List Action) → length path ≤ n → IsSimple p path → IsAccepted p path →
+        IsSimpleGoalWalk (graph_of p) n path
+    simple-goal-walks n path l s a = record {
+      reaches = (goal-walks n path).1 (l, a);
+      simple =
+          (simple-walks path).1 (accepted-open path a, s);
+    }
 
     -- a leading walk is a leading path
     pub leading-walks : (n : ℕ) (path : List Action) → IsLeadingWalk (graph_of p) n path → IsLeading p n path
@@ -115,8 +131,21 @@ module _ (p : PlainProblem) where
     -- distances of pairs are those of walks
     pub walk-distances : (x : Pair) (d : ℕ) → IsWalkDistance (graph_of p) x d ↔ IsDistance p x d
     walk-distances x d = (
-      λ w. (let o = (walks-open w.path x).0 w.ends in record { path = w.path; open_path = o.0; its_pair = o.1; its_length = w.long; least = λ other m e. w.least other ((walks-open other x).1 (m, e)) }),
-      λ h. record { path = h.path; ends = (walks-open h.path x).1 (h.open_path, h.its_pair); long = h.its_length; least = λ other e. (let o = (walks-open other x).0 e in h.least other o.0 o.1) },
+      λ w. (let o = (walks-open w.path x).0 w.ends in record {
+        path = w.path;
+        open_path = o.0;
+        its_pair = o.1;
+        its_length = w.long;
+        least =
+            λ other m e. w.least other ((walks-open other x).1 (m, e));
+      }),
+      λ h. record {
+        path = h.path;
+        ends = (walks-open h.path x).1 (h.open_path, h.its_pair);
+        long = h.its_length;
+        least = λ other e.
+            (let o = (walks-open other x).0 e in h.least other o.0 o.1);
+      },
     )
 
 -- an action with a successor is executable
@@ -129,7 +158,8 @@ pairs-lawful p = record { executes = λ x y a e. by_step x (step p x.world a) e 
     by_step x (Some w) e = refl
 
 -- a list of a pair's executable actions is one of the graph
-pub pairs-actions : (p : PlainProblem) (x : Pair) (listed : List Action) → ListsActions p x.world listed → AreActionsOf (graph_of p) x listed
+pub pairs-actions : (p : PlainProblem) (x : Pair) (listed : List Action) → ListsActions p x.world listed →
+    AreActionsOf (graph_of p) x listed
 unfolding graph_of
 pairs-actions p x listed l = record { all = l.exact; order = l.rises }
 
@@ -142,4 +172,5 @@ unfolding SatisfiesAlong Holds
 accepted-not-false p x a e = subst (λ f. Satisfies p (idle_run x.world) 0 f) e a.idles
 
 pub none-accepted : (p : PlainProblem) → (first_pair p).formula ≡ falsum → (plan : List Action) → IsAccepted p plan → ⊥
-none-accepted p f plan a = let w = (accepted-exactly p plan).0 a in none-open p f plan ((open-by-residual p plan).1 (w.0, w.1, accepted-not-false p w.0 w.2))
+none-accepted p f plan a = let w = (accepted-exactly p plan).0 a in none-open p f plan
+    ((open-by-residual p plan).1 (w.0, w.1, accepted-not-false p w.0 w.2))

@@ -1,5 +1,6 @@
 -- The top level and its next action, as the code reads them.
-use Rattle.std.proofs.Common.{◌≡◌, ◌<◌, ◌≤◌, ◌+◌, ◌-◌, ℕ, suc, List, [], ◌∷◌, ◌++◌, length, take, drop, slice_index_or, Some, Result, IfOk, OnErr, sym, ap, ◌∙◌, subst, arith}
+use Rattle.std.proofs.Common.{◌≡◌, ◌<◌, ◌≤◌, ◌+◌, ◌-◌, ℕ, suc, List, [], ◌∷◌, ◌++◌, length, take, drop, slice_index_or, Some, Result, IfOk}
+use Rattle.std.proofs.Common.{OnErr, sym, ap, ◌∙◌, subst, arith}
 use Rattle.std.proofs.lemmas.List.{append-nil, take_more, drop_all, flat_map_more}
 use Rattle.std.specs.List.{slice_get}
 use Rattle.tl_syntax.specs.declared.action.Action.{Action}
@@ -27,7 +28,8 @@ pub record ReadsLast (levels : List Level) (place : ℕ) (now : Level) : Type 0 
   pub is : levels ≡ front ++ now ∷ []
   pub last : suc place ≡ length levels
 
-read-end : (levels counted read front : List Level) (now top : Level) → levels ≡ front ++ top ∷ [] → counted ≡ levels → read ≡ levels → now ≡ slice_index_or read (length counted - 1) now → ReadsLast levels (length counted - 1) now
+read-end : (levels counted read front : List Level) (now top : Level) → levels ≡ front ++ top ∷ [] → counted ≡ levels → read ≡ levels →
+    now ≡ slice_index_or read (length counted - 1) now → ReadsLast levels (length counted - 1) now
 read-end levels counted read front now top is e f n = record {
   front = front;
   is = subst (λ (d : Level). levels ≡ front ++ d ∷ []) (sym (top-is levels read front top now (length counted - 1) is f last n)) is;
@@ -37,7 +39,8 @@ read-end levels counted read front now top is e f n = record {
     last : suc (length counted - 1) ≡ length levels
     last = let long : length levels ≡ suc (length front) = some-length levels front top is in omega (arith, ap length e)
 
-pub reads-last : (levels counted read : List Level) (now : Level) → 0 < length levels → counted ≡ levels → read ≡ levels → now ≡ slice_index_or read (length counted - 1) now → ReadsLast levels (length counted - 1) now
+pub reads-last : (levels counted read : List Level) (now : Level) → 0 < length levels → counted ≡ levels → read ≡ levels → now ≡
+    slice_index_or read (length counted - 1) now → ReadsLast levels (length counted - 1) now
 reads-last levels counted read now some e f n = let v = last-of levels some in read-end levels counted read v.0 now v.1 v.2 e f n
 
 -- and the action is its next one
@@ -47,7 +50,9 @@ pub record ReadsTop (levels : List Level) (place left : ℕ) (now : Level) (a : 
   pub remaining : suc left ≡ now.left
 
 -- which the code gets by its place
-pub reads-got : (levels counted read : List Level) (left : ℕ) (now : Level) (a : Action) → IsTop levels left → counted ≡ levels → read ≡ levels → now ≡ slice_index_or read (length counted - 1) now → slice_get now.actions now.tried ≡ Some a → ReadsTop levels (length counted - 1) left now a
+pub reads-got : (levels counted read : List Level) (left : ℕ) (now : Level) (a : Action) → IsTop levels left → counted ≡ levels → read ≡
+    levels → now ≡ slice_index_or read (length counted - 1) now → slice_get now.actions now.tried ≡ Some a →
+    ReadsTop levels (length counted - 1) left now a
 reads-got levels counted read left now a t e f n got = record {
   level = level;
   at_action = got;
@@ -61,7 +66,8 @@ reads-got levels counted read left now a t e f n got = record {
     same = top-is levels read t.0 t.1 now (length counted - 1) t.2 f level.last n
 
 -- the top level has a next action, also where it is not read
-pub reads-some : (levels counted read : List Level) (left : ℕ) (now : Level) → IsTop levels left → counted ≡ levels → read ≡ levels → now ≡ slice_index_or read (length counted - 1) now → (a : Action) × ReadsTop levels (length counted - 1) left now a
+pub reads-some : (levels counted read : List Level) (left : ℕ) (now : Level) → IsTop levels left → counted ≡ levels → read ≡ levels → now ≡
+    slice_index_or read (length counted - 1) now → (a : Action) × ReadsTop levels (length counted - 1) left now a
 reads-some levels counted read left now t e f n = (
   next.0,
   record {
@@ -80,7 +86,8 @@ reads-some levels counted read left now t e f n = (
     same : now ≡ t.1
     same = top-is levels read t.0 t.1 now (length counted - 1) t.2 f level.last n
 
-module _ (p : PlainProblem) (b : ℕ) (kept : List KeptPair) (w : DepthFirst) (calls place left : ℕ) (now : Level) (a : Action) (s : IsOngoing p b (pairs_of kept) w calls) (r : ReadsTop w.stack.items place left now a) where
+module _ (p : PlainProblem) (b : ℕ) (kept : List KeptPair) (w : DepthFirst) (calls place left : ℕ) (now : Level) (a : Action)
+    (s : IsOngoing p b (pairs_of kept) w calls) (r : ReadsTop w.stack.items place left now a) where
   now-placed : now.at < length (pairs_of kept)
   now-placed = top-placed p b (pairs_of kept) w calls s r.level.front now r.level.is
 
@@ -89,8 +96,10 @@ module _ (p : PlainProblem) (b : ℕ) (kept : List KeptPair) (w : DepthFirst) (c
   now-pair = there kept now.at now-placed
 
   -- with the call of the action there are few calls still, whatever it answers
-  pub few-called : (new : List KeptPair) (answer : Result Arrival SpaceFault) → IfOk answer (ChildArrives p kept new now.at a) → OnErr answer (new ≡ kept) → AreFewCalls p w.within (pairs_of new) (calls + 1)
-  few-called new answer h stay = child-few p w.within (calls + 1) kept new now.at a answer now-placed h stay (few-next p b (pairs_of kept) w calls s r.level.front now r.level.is a r.at_action)
+  pub few-called : (new : List KeptPair) (answer : Result Arrival SpaceFault) → IfOk answer (ChildArrives p kept new now.at a) →
+      OnErr answer (new ≡ kept) → AreFewCalls p w.within (pairs_of new) (calls + 1)
+  few-called new answer h stay = child-few p w.within (calls + 1) kept new now.at a answer now-placed h stay
+      (few-next p b (pairs_of kept) w calls s r.level.front now r.level.is a r.at_action)
 
 -- the path of the levels, one level on: with the action that the level is at, or none
 module _ (levels : List Level) (i : ℕ) (c : Level) (below : i < length levels) (is : c ≡ slice_index_or levels i c) where
@@ -103,4 +112,5 @@ module _ (levels : List Level) (i : ℕ) (c : Level) (below : i < length levels)
   path-got a got = path-taken ∙ ap (λ us. path_of (take i levels) ++ at_hand us) (get-rest c.actions c.tried a got)
 
   pub path-passed : length c.actions ≤ c.tried → path_of (take (i + 1) levels) ≡ path_of (take i levels)
-  path-passed past = path-taken ∙ (ap (λ us. path_of (take i levels) ++ at_hand us) (drop_all c.tried c.actions past) ∙ append-nil (path_of (take i levels)))
+  path-passed past = path-taken ∙ (ap (λ us. path_of (take i levels) ++ at_hand us) (drop_all c.tried c.actions past) ∙
+      append-nil (path_of (take i levels)))

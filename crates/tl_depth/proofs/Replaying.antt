@@ -35,12 +35,18 @@ pub lists-same : (p : PlainProblem) (x : Pair) (us vs : List Action) → ListsAc
 lists-same p x us vs h k = actions-same (graph_of p) x us vs (pairs-actions p x us h) (pairs-actions p x vs k)
 
 -- the actions of the pair of the number, said of pairs alone
-pub listed-pair : (p : PlainProblem) (task : Task) (kept : List KeptPair) (at : ℕ) (listed : List Action) → IsListed p task kept at listed → (x : Pair) → slice_get (pairs_of kept) at ≡ Some x → ListsActions p x.world listed
-listed-pair p task kept at listed h x e = subst (λ (z : Pair). ListsActions p z.world listed) (get-one (pairs_of kept) at h.0.node x (kept-pair kept at h.0 h.1) e) h.2
+pub listed-pair : (p : PlainProblem) (task : Task) (kept : List KeptPair) (at : ℕ) (listed : List Action) → IsListed p task kept at listed →
+    (x : Pair) → slice_get (pairs_of kept) at ≡ Some x → ListsActions p x.world listed
+listed-pair p task kept at listed h x e = subst (λ (z : Pair). ListsActions p z.world listed)
+    (get-one (pairs_of kept) at h.0.node x (kept-pair kept at h.0 h.1) e) h.2
 
-module _ (p : PlainProblem) (b : ℕ) (kept : List KeptPair) (w : DepthFirst) (calls : ℕ) (s : IsOngoing p b (pairs_of kept) w calls) (front : List Level) (c : Level) (is : w.stack.items ≡ front ++ c ∷ []) where
-  frames : AreFrames (graph_of p) w.within (Reported w.watch (pairs_of kept) w.events) (met_in pair_discrete (pairs_of kept) w.most.items) (frame_of (pairs_of kept) (graph_of p).root c ∷ frames_of (pairs_of kept) (graph_of p).root front [])
-  frames = subst (AreFrames (graph_of p) w.within (Reported w.watch (pairs_of kept) w.events) (met_in pair_discrete (pairs_of kept) w.most.items)) (ap (λ us. frames_of (pairs_of kept) (graph_of p).root us []) is ∙ frames-last (pairs_of kept) (graph_of p).root front c []) s.running.searching.frames
+module _ (p : PlainProblem) (b : ℕ) (kept : List KeptPair) (w : DepthFirst) (calls : ℕ) (s : IsOngoing p b (pairs_of kept) w calls)
+    (front : List Level) (c : Level) (is : w.stack.items ≡ front ++ c ∷ []) where
+  frames : AreFrames (graph_of p) w.within (Reported w.watch (pairs_of kept) w.events) (met_in pair_discrete (pairs_of kept) w.most.items)
+      (frame_of (pairs_of kept) (graph_of p).root c ∷ frames_of (pairs_of kept) (graph_of p).root front [])
+  frames = subst (AreFrames (graph_of p) w.within (Reported w.watch (pairs_of kept) w.events)
+      (met_in pair_discrete (pairs_of kept) w.most.items)) (ap (λ us. frames_of (pairs_of kept) (graph_of p).root us []) is ∙
+      frames-last (pairs_of kept) (graph_of p).root front c []) s.running.searching.frames
 
   -- the pair of the top level
   its-pair : (x : KeptPair) × (slice_get kept c.at ≡ Some x)
@@ -51,8 +57,10 @@ module _ (p : PlainProblem) (b : ℕ) (kept : List KeptPair) (w : DepthFirst) (c
   its-actions x e = record { exact = all.all; rises = all.order }
     where
       all : AreActionsOf (graph_of p) x.node c.actions
-      all = subst (λ y. AreActionsOf (graph_of p) y c.actions) (get-index (pairs_of kept) c.at x.node (graph_of p).root (kept-pair kept c.at x e))
-          (subst (AreActionsOf (graph_of p) (level_node (pairs_of kept) (graph_of p).root c)) (take-append-drop c.tried c.actions) frames.0.all)
+      all = subst (λ y. AreActionsOf (graph_of p) y c.actions) (get-index (pairs_of kept) c.at x.node (graph_of p).root
+          (kept-pair kept c.at x e))
+          (subst (AreActionsOf (graph_of p) (level_node (pairs_of kept) (graph_of p).root c))
+          (take-append-drop c.tried c.actions) frames.0.all)
 
   -- the top level's actions are its pair's
   pub top-listed : (task : Task) → AreNamedIn task c.actions → IsListed p task kept c.at c.actions
@@ -68,10 +76,19 @@ module _ (p : PlainProblem) (b : ℕ) (kept : List KeptPair) (w : DepthFirst) (c
 
     -- what arrived may be remembered
     pub came-of : (new : List KeptPair) → ChildArrives p kept new c.at a r → CameOf p new c.at c.tried (as_seen r)
-    came-of new h = (its-pair.0, grows-by-arrival p kept new c.at its-pair.0 a r its-pair.1 h c.at its-pair.0 its-pair.1, c.actions, its-actions its-pair.0 its-pair.1, a, at-action, arrives-again p kept new c.at its-pair.0 a r its-pair.1 h)
+    came-of new h = (
+      its-pair.0,
+      grows-by-arrival p kept new c.at its-pair.0 a r its-pair.1 h c.at its-pair.0 its-pair.1,
+      c.actions,
+      its-actions its-pair.0 its-pair.1,
+      a,
+      at-action,
+      arrives-again p kept new c.at its-pair.0 a r its-pair.1 h,
+    )
 
 -- what is remembered besides changes nothing of an arrival
-pub as-learnt : (p : PlainProblem) (b : ℕ) (kept : List Pair) (w v : DepthFirst) (r : Arrival) (left calls : ℕ) → v ≡ record w { expansions = v.expansions } → IsArrived p b kept w r left calls → IsArrived p b kept v r left calls
+pub as-learnt : (p : PlainProblem) (b : ℕ) (kept : List Pair) (w v : DepthFirst) (r : Arrival) (left calls : ℕ) → v ≡
+    record w { expansions = v.expansions } → IsArrived p b kept w r left calls → IsArrived p b kept v r left calls
 as-learnt p b kept w v r left calls rest s = subst (λ u. IsArrived p b kept u r left calls) (sym rest) (record {
   old = s.old;
   before = s.before;

@@ -1,10 +1,12 @@
 -- What is true at every moment of the search stays true in each of its steps.
-use Rattle.std.proofs.Common.{◌≡◌, ◌≤◌, ◌+◌, ℕ, suc, List, [], ◌∷◌, ◌++◌, length, Some, Less, sym, ap, ◌∙◌, subst, inl, inr, append_assoc, length-append, arith}
+use Rattle.std.proofs.Common.{◌≡◌, ◌≤◌, ◌+◌, ℕ, suc, List, [], ◌∷◌, ◌++◌, length, Some, Less, sym, ap, ◌∙◌, subst, inl, inr, append_assoc}
+use Rattle.std.proofs.Common.{length-append, arith}
 use Rattle.tl_syntax.specs.declared.action.Action.{Action}
 use Rattle.tl_syntax.specs.Lists.{AtLeastOne}
 use Rattle.tl_terms.specs.Orders.{plan_cmp}
 use Rattle.tl_depth.specs.ActionGraphs.{ActionGraph, IsLawful, AreActionsOf, walked, node_after, IsSimpleGoalWalk, IsLeadingWalk}
-use Rattle.tl_depth.specs.Search.{Memory, Reports, Frame, at_hand, gone, advanced, IsCovered, IsFruitless, IsDone, IsUnderWay, AreFrames, IsOnStack, IsDepthFirst}
+use Rattle.tl_depth.specs.Search.{Memory, Reports, Frame, at_hand, gone, advanced, IsCovered, IsFruitless, IsDone, IsUnderWay, AreFrames}
+use Rattle.tl_depth.specs.Search.{IsOnStack, IsDepthFirst}
 use Rattle.tl_depth.proofs.ListFacts.{each_at, each_map, each_last, append_end, front_short}
 use Rattle.tl_depth.proofs.WalkLaws.{walk-by, walk-last, simple-last, goes-by}
 use Rattle.tl_depth.proofs.Exploring.{explored-kept, met-explored}
@@ -15,21 +17,24 @@ module _ {Node : Type 0} (g : ActionGraph Node) (n : ℕ) (lawful : IsLawful g) 
 
   module _ (reported : Reports Node) (met : Memory Node) where
     -- no simple walk to an accepted node comes before the stack's walk with the next action
-    pub first-next : (f : Frame Node) (below : List (Frame Node)) (a : Action) (later : List Action) → IsDepthFirst g n reported met (f ∷ below) → f.rest ≡ a ∷ later
+    pub first-next : (f : Frame Node) (below : List (Frame Node)) (a : Action) (later : List Action) →
+        IsDepthFirst g n reported met (f ∷ below) → f.rest ≡ a ∷ later
         → (other : List Action) → IsSimpleGoalWalk g n other → plan_cmp other (gone below ++ a ∷ []) ≡ Less → ⊥
     first-next f below a later s r other w =
         first-on g n reported met lawful (gone below) f a later s.frames.0 (s.kept f.node f.left s.frames.0.most).refused r other w
         (stack-first g n reported met lawful f below s.frames (λ x m e. (s.kept x m e).refused) other w)
 
     -- the stack's walk is leading
-    pub leading-here : (f : Frame Node) (below : List (Frame Node)) → IsDepthFirst g n reported met (f ∷ below) → IsLeadingWalk g n (gone below)
+    pub leading-here : (f : Frame Node) (below : List (Frame Node)) → IsDepthFirst g n reported met (f ∷ below) →
+        IsLeadingWalk g n (gone below)
     leading-here f below s = record {
       short = omega (arith, s.frames.0.budget);
       simple = stack-simple g n reported met f below s.frames;
       first = λ other w. stack-first g n reported met lawful f below s.frames (λ x m e. (s.kept x m e).refused) other w;
     }
 
-    not-there : (front : List Action) (q : Node) (stack : List (Frame Node)) → (IsOnStack stack q → ⊥) → node_after g front ≡ Some q → AtLeastOne (λ h. node_after g front ≡ Some h.node) stack → ⊥
+    not-there : (front : List Action) (q : Node) (stack : List (Frame Node)) → (IsOnStack stack q → ⊥) → node_after g front ≡ Some q →
+        AtLeastOne (λ h. node_after g front ≡ Some h.node) stack → ⊥
     not-there front q [] off e o = o
     not-there front q (h ∷ stack) off e o = elim o [
       | inl p ↦ off (inl (let d : Some h.node ≡ Some q = sym p ∙ e in let c : h.node ≡ q = cc in c))
@@ -37,11 +42,13 @@ module _ {Node : Type 0} (g : ActionGraph Node) (n : ℕ) (lawful : IsLawful g) 
     ]
 
     -- and so is the walk to a node that is not on the stack
-    pub leading-next : (f : Frame Node) (below : List (Frame Node)) (a : Action) (later : List Action) (q : Node) → IsDepthFirst g n reported met (f ∷ below) → f.rest ≡ a ∷ later → g.next f.node a ≡ Some q
+    pub leading-next : (f : Frame Node) (below : List (Frame Node)) (a : Action) (later : List Action) (q : Node) →
+        IsDepthFirst g n reported met (f ∷ below) → f.rest ≡ a ∷ later → g.next f.node a ≡ Some q
         → (IsOnStack (f ∷ below) q → ⊥) → IsLeadingWalk g n (gone below ++ a ∷ [])
     leading-next f below a later q s r e off = record {
       short = omega (arith, length-append (gone below) (a ∷ []), s.frames.0.budget, s.frames.0.some);
-      simple = simple-last g (gone below) a q (stack-simple g n reported met f below s.frames) (walk-last g (gone below) a f.node s.frames.0.ends ∙ e)
+      simple = simple-last g (gone below) a q (stack-simple g n reported met f below s.frames)
+          (walk-last g (gone below) a f.node s.frames.0.ends ∙ e)
           (λ front rest p d. not-there front q (f ∷ below) off d (stack-fronts g n reported met f below s.frames front rest p));
       first = first-next f below a later s r;
     }
@@ -49,13 +56,16 @@ module _ {Node : Type 0} (g : ActionGraph Node) (n : ℕ) (lawful : IsLawful g) 
     -- ---- an action that is done with
 
     -- where the action's node is explored deep enough, no simple walk to an accepted node goes by it
-    pub fruitless : (f : Frame Node) (below : List (Frame Node)) (a : Action) → IsDepthFirst g n reported met (f ∷ below) → IsCovered g met f.node f.left a → IsFruitless g n (gone below) a
-    fruitless f below a s c rest w = by_next (goes-by g f.node w.reaches.last a rest (sym (walk-by g (gone below) rest a f.node s.frames.0.ends) ∙ w.reaches.ends))
+    pub fruitless : (f : Frame Node) (below : List (Frame Node)) (a : Action) → IsDepthFirst g n reported met (f ∷ below) →
+        IsCovered g met f.node f.left a → IsFruitless g n (gone below) a
+    fruitless f below a s c rest w = by_next (goes-by g f.node w.reaches.last a rest
+        (sym (walk-by g (gone below) rest a f.node s.frames.0.ends) ∙ w.reaches.ends))
       where
         long : length (gone below ++ a ∷ rest) ≡ length (gone below) + suc (length rest)
         long = length-append (gone below) (a ∷ rest)
 
-        off : (z : Node) → g.next f.node a ≡ Some z → (front left : List Action) (u : Node) → front ++ left ≡ rest → walked g (Some z) front ≡ Some u → IsOnStack (f ∷ below) u → ⊥
+        off : (z : Node) → g.next f.node a ≡ Some z → (front left : List Action) (u : Node) → front ++ left ≡ rest →
+            walked g (Some z) front ≡ Some u → IsOnStack (f ∷ below) u → ⊥
         off z e front left u p q o = at (stack-nodes g n reported met f below s.frames u o)
           where
             there : node_after g (gone below ++ a ∷ front) ≡ Some u
@@ -70,18 +80,21 @@ module _ {Node : Type 0} (g : ActionGraph Node) (n : ℕ) (lawful : IsLawful g) 
                 (v.3 ∙ sym there) in
                 let short : length v.0 ≤ length (gone below) = front_short v.0 v.1 (gone below) v.2 in
                 let same_length : length v.0 ≡ length (gone below ++ a ∷ front) = ap length same in
-                let more : length (gone below ++ a ∷ front) ≡ length (gone below) + suc (length front) = length-append (gone below) (a ∷ front) in
+                let more : length (gone below ++ a ∷ front) ≡ length (gone below) + suc (length front) =
+                length-append (gone below) (a ∷ front) in
                 omega arith
 
         by_next : ((z : Node) × (g.next f.node a ≡ Some z) × (walked g (Some z) rest ≡ Some w.reaches.last)) → ⊥
         by_next v =
             let deep = c v.0 v.1 (length rest) (omega (arith, long, s.frames.0.budget, w.reaches.short)) in
-            let d = reach g n reported met lawful (f ∷ below) s.done rest (length rest) v.0 w.reaches.last deep (omega arith) v.2 (off v.0 v.1) in
+            let d = reach g n reported met lawful (f ∷ below) s.done rest (length rest) v.0 w.reaches.last deep (omega arith) v.2
+            (off v.0 v.1) in
             let k = explored-kept g met d.0 w.reaches.last d.2 in
             (s.kept w.reaches.last k.0 k.1).refused w.reaches.accepted
 
     -- the top frame is done with its next action
-    pub advance : (f : Frame Node) (below : List (Frame Node)) (a : Action) (later : List Action) → IsDepthFirst g n reported met (f ∷ below) → f.rest ≡ a ∷ later → IsCovered g met f.node f.left a → reported f.node a
+    pub advance : (f : Frame Node) (below : List (Frame Node)) (a : Action) (later : List Action) →
+        IsDepthFirst g n reported met (f ∷ below) → f.rest ≡ a ∷ later → IsCovered g met f.node f.left a → reported f.node a
         → IsDepthFirst g n reported met (advanced f a later ∷ below)
     advance f below a later s r c t = record {
       frames = (
@@ -107,7 +120,8 @@ module _ {Node : Type 0} (g : ActionGraph Node) (n : ℕ) (lawful : IsLawful g) 
     -- ---- a frame that is done with
 
     -- the node of the top frame is done with
-    pub leave : (f : Frame Node) (below : List (Frame Node)) → IsDepthFirst g n reported met (f ∷ below) → f.rest ≡ [] → IsDepthFirst g n reported met below
+    pub leave : (f : Frame Node) (below : List (Frame Node)) → IsDepthFirst g n reported met (f ∷ below) → f.rest ≡ [] →
+        IsDepthFirst g n reported met below
     leave f below s r = record {
       frames = s.frames.3;
       kept = s.kept;
@@ -125,7 +139,10 @@ module _ {Node : Type 0} (g : ActionGraph Node) (n : ℕ) (lawful : IsLawful g) 
         tried = subst (AreActionsOf g f.node) (ap (λ us. f.tried ++ us) r ∙ append_end f.tried) s.frames.0.all
 
         own : IsDone g reported met f.node f.left
-        own a t = let there = (tried.all a).1 t in (each_at (IsCovered g met f.node f.left) a f.tried there s.frames.0.covered, each_at (reported f.node) a f.tried there s.frames.0.told)
+        own a t = let there = (tried.all a).1 t in (
+          each_at (IsCovered g met f.node f.left) a f.tried there s.frames.0.covered,
+          each_at (reported f.node) a f.tried there s.frames.0.told,
+        )
 
         this : (x : Node) (m : ℕ) → f.node ≡ x → met x ≡ Some m → IsDone g reported met x m
         this x m i e =
@@ -134,7 +151,8 @@ module _ {Node : Type 0} (g : ActionGraph Node) (n : ℕ) (lawful : IsLawful g) 
             subst (λ y. IsDone g reported met y m) i (subst (IsDone g reported met f.node) l own)
 
     -- and the frame below goes on
-    pub climb : (f h : Frame Node) (below : List (Frame Node)) (a : Action) (later : List Action) → IsDepthFirst g n reported met (f ∷ h ∷ below) → f.rest ≡ [] → h.rest ≡ a ∷ later
+    pub climb : (f h : Frame Node) (below : List (Frame Node)) (a : Action) (later : List Action) →
+        IsDepthFirst g n reported met (f ∷ h ∷ below) → f.rest ≡ [] → h.rest ≡ a ∷ later
         → IsDepthFirst g n reported met (advanced h a later ∷ below)
     climb f h below a later s r q = advance h below a later (leave f (h ∷ below) s r) q covered told
       where
@@ -162,16 +180,28 @@ module _ {Node : Type 0} (g : ActionGraph Node) (n : ℕ) (lawful : IsLawful g) 
 
   -- ---- what is reported grows
 
-  report : (before after : Reports Node) (met : Memory Node) (stack : List (Frame Node)) → ((x : Node) (a : Action) → before x a → after x a) → AreFrames g n before met stack → AreFrames g n after met stack
+  report : (before after : Reports Node) (met : Memory Node) (stack : List (Frame Node)) →
+      ((x : Node) (a : Action) → before x a → after x a) → AreFrames g n before met stack → AreFrames g n after met stack
   report before after met [] more s = tt
   report before after met (f ∷ below) more s = (
-    record { ends = s.0.ends; budget = s.0.budget; some = s.0.some; all = s.0.all; most = s.0.most; covered = s.0.covered; fruitless = s.0.fruitless; told = each_map (more f.node) f.tried s.0.told },
+    record {
+      ends = s.0.ends;
+      budget = s.0.budget;
+      some = s.0.some;
+      all = s.0.all;
+      most = s.0.most;
+      covered = s.0.covered;
+      fruitless =
+          s.0.fruitless;
+      told = each_map (more f.node) f.tried s.0.told;
+    },
     s.1,
     each_map (λ h u. record { action = u.action; later = u.later; is = u.is; told = more h.node u.action u.told }) below s.2,
     report before after met below more s.3,
   )
 
-  pub reporting : (before after : Reports Node) (met : Memory Node) (stack : List (Frame Node)) → ((x : Node) (a : Action) → before x a → after x a) → IsDepthFirst g n before met stack → IsDepthFirst g n after met stack
+  pub reporting : (before after : Reports Node) (met : Memory Node) (stack : List (Frame Node)) →
+      ((x : Node) (a : Action) → before x a → after x a) → IsDepthFirst g n before met stack → IsDepthFirst g n after met stack
   reporting before after met stack more s = record {
     frames = report before after met stack more s.frames;
     kept = s.kept;

@@ -43,7 +43,8 @@ IsKeptWithin n kept most x l = (k : ℕ) × (slice_get kept k ≡ Some x) × (m 
 pub record IsExhausted (p : PlainProblem) (n : ℕ) (reported : Reports Pair) (kept : List Pair) (most : List ℕ) : Type 0 where
   pub none : HasNoPlanWithin p n
   pub led : (k : ℕ) (x : Pair) (m : ℕ) → slice_get kept k ≡ Some x → slice_get most k ≡ Some m → IsLedWith p n x m
-  pub all : (path : List Action) (x : Pair) → IsOpen p path → pair_of p path ≡ Some x → length path ≤ n → IsKeptWithin n kept most x (length path)
+  pub all : (path : List Action) (x : Pair) → IsOpen p path → pair_of p path ≡ Some x → length path ≤ n →
+      IsKeptWithin n kept most x (length path)
   pub cut : ((k : ℕ) × (slice_get most k ≡ Some 0)) ↔ HasPairAt p n
   pub uncut : IsUncut most → HasNoPlan p × HasNoPairFrom p n
   pub told : (x : Pair) (d : ℕ) → IsDistance p x d → d < n → (a : Action) → IsTrue (is_some (step p x.world a)) → reported x a
@@ -66,4 +67,5 @@ unfoldable pub IsActionSum : PlainProblem → ℕ → List Pair → ℕ → Type
 IsActionSum p n [] s = s ≡ 0
 IsActionSum p n (x ∷ kept) s =
     IsActionSum p n kept s
-    ⊎ ((actions : List Action) × (rest : ℕ) × IsNearer p n x × ListsActions p x.world actions × (s ≡ length actions + rest) × IsActionSum p n kept rest)
+    ⊎ ((actions : List Action) × (rest : ℕ) × IsNearer p n x × ListsActions p x.world actions × (s ≡ length actions + rest) ×
+    IsActionSum p n kept rest)

@@ -42,7 +42,8 @@ unfoldable pub AreTried : Bool → (ℕ → Part) → ℕ → List Action → Pa
 AreTried cut meets at [] met events after later = Passes met events after later
 AreTried cut meets at (a ∷ actions) met events after later =
     Stops cut met events after later
-    ⊎ ((e : Event) × (rest : List Event) × (mid : List Meeting) × (next : List Event) × (events ≡ e ∷ rest) × IsEventOf at a e × Follows meets e met rest mid next × AreTried cut meets at actions mid next after later)
+    ⊎ ((e : Event) × (rest : List Event) × (mid : List Meeting) × (next : List Event) × (events ≡ e ∷ rest) × IsEventOf at a e ×
+    Follows meets e met rest mid next × AreTried cut meets at actions mid next after later)
 
 -- pair k is met with so many remaining actions: where they are more than ever before it is entered,
 -- and all its executable actions are tried with one less; elsewhere it is passed
@@ -50,7 +51,8 @@ unfoldable pub Meets : PlainProblem → List Pair → Bool → ℕ → ℕ → P
 Meets p kept cut zero k met events after later = Passes ((k, 0) ∷ met) events after later
 Meets p kept cut (suc left) k met events after later =
     Stops cut met events after later
-    ⊎ ((IsMore met k (suc left) × ((x : Pair) × (actions : List Action) × (slice_get kept k ≡ Some x) × ListsActions p x.world actions × AreTried cut (Meets p kept cut left) k actions ((k, suc left) ∷ met) events after later))
+    ⊎ ((IsMore met k (suc left) × ((x : Pair) × (actions : List Action) × (slice_get kept k ≡ Some x) × ListsActions p x.world actions ×
+    AreTried cut (Meets p kept cut left) k actions ((k, suc left) ∷ met) events after later))
     ⊎ ((IsMore met k (suc left) → ⊥) × Passes ((k, suc left) ∷ met) events after later))
 
 -- the events are those of a depth-first search of at most n actions: the root's, and what is told

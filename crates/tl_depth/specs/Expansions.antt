@@ -21,7 +21,8 @@ IsListed p task kept at listed = (x : KeptPair) × (slice_get kept at ≡ Some x
 -- the i-th executable action of the pair of the number brings no pair that is not kept: this
 -- arrives
 abbrev pub CameOf : PlainProblem → List KeptPair → ℕ → ℕ → Arrival → Type 0
-CameOf p kept at i r = (x : KeptPair) × (slice_get kept at ≡ Some x) × (listed : List Action) × ListsActions p x.node.world listed × (a : Action) × (slice_get listed i ≡ Some a) × ChildArrives p kept kept at a r
+CameOf p kept at i r = (x : KeptPair) × (slice_get kept at ≡ Some x) × (listed : List Action) × ListsActions p x.node.world listed ×
+    (a : Action) × (slice_get listed i ≡ Some a) × ChildArrives p kept kept at a r
 
 -- what is remembered of the pair of the number is right
 pub record IsExpansion (p : PlainProblem) (task : Task) (kept : List KeptPair) (at : ℕ) (e : Expansion) : Type 0 where
@@ -39,7 +40,8 @@ pub record Remembers (p : PlainProblem) (task : Task) (kept : List KeptPair) (kn
 
 -- where what is remembered was right, it is so still
 abbrev pub StayExpansions : Expansions → Expansions → Type 0
-StayExpansions old new = (p : PlainProblem) (task : Task) (kept : List KeptPair) → AreExpansions p task kept old → AreExpansions p task kept new
+StayExpansions old new = (p : PlainProblem) (task : Task) (kept : List KeptPair) → AreExpansions p task kept old →
+    AreExpansions p task kept new
 
 -- nothing is remembered
 abbrev pub KnowsNothing : Expansions → Type 0
@@ -47,7 +49,8 @@ KnowsNothing known = known.entries.items ≡ []
 
 -- if what is remembered is right, these are the actions of the pair of the number
 abbrev pub KnowsActions : Expansions → ℕ → List Action → Type 0
-KnowsActions known at listed = (p : PlainProblem) (task : Task) (kept : List KeptPair) → AreExpansions p task kept known → IsListed p task kept at listed
+KnowsActions known at listed = (p : PlainProblem) (task : Task) (kept : List KeptPair) → AreExpansions p task kept known →
+    IsListed p task kept at listed
 
 -- if what is remembered is right, this came of the pair's i-th action
 abbrev pub KnowsArrival : Expansions → ℕ → ℕ → Arrival → Type 0
@@ -56,7 +59,8 @@ KnowsArrival known at i r = (p : PlainProblem) (task : Task) (kept : List KeptPa
 -- where what is remembered was right, and these are the actions of the pair of the number, it is so
 -- still
 abbrev pub GainsActions : Expansions → Expansions → ℕ → List Action → Type 0
-GainsActions old new at listed = (p : PlainProblem) (task : Task) (kept : List KeptPair) → AreExpansions p task kept old → IsListed p task kept at listed → AreExpansions p task kept new
+GainsActions old new at listed = (p : PlainProblem) (task : Task) (kept : List KeptPair) → AreExpansions p task kept old →
+    IsListed p task kept at listed → AreExpansions p task kept new
 
 -- a pair that was fresh is seen when the action is replayed
 abbrev pub as_seen : Arrival → Arrival
@@ -70,7 +74,8 @@ AddsAt old new i r = (new ≡ old) ⊎ ((length old ≡ i) × (new ≡ old ++ r 
 
 -- where what is remembered was right, and this came of the pair's i-th action, it is so still
 abbrev pub GainsArrival : Expansions → Expansions → ℕ → ℕ → Arrival → Type 0
-GainsArrival old new at i r = (p : PlainProblem) (task : Task) (kept : List KeptPair) → AreExpansions p task kept old → CameOf p kept at i (as_seen r) → AreExpansions p task kept new
+GainsArrival old new at i r = (p : PlainProblem) (task : Task) (kept : List KeptPair) → AreExpansions p task kept old →
+    CameOf p kept at i (as_seen r) → AreExpansions p task kept new
 
 -- this came of the last level's next action
 abbrev pub CameOfTop : PlainProblem → List KeptPair → List Level → Arrival → Type 0

@@ -22,19 +22,23 @@ TriesRest p kept cut c = AreTried cut (Meets p kept cut (c.left - 1)) c.at (drop
 -- then nothing is told
 unfoldable pub GoOn : PlainProblem → List Pair → Bool → List Level → List Meeting → List Event → Type 0
 GoOn p kept cut [] met events = events ≡ []
-GoOn p kept cut (h ∷ below) met events = (mid : List Meeting) × (next : List Event) × TriesRest p kept cut (stepped h) met events mid next × GoOn p kept cut below mid next
+GoOn p kept cut (h ∷ below) met events = (mid : List Meeting) × (next : List Event) × TriesRest p kept cut (stepped h) met events mid next ×
+    GoOn p kept cut below mid next
 
 -- all levels go on, the top one first
 unfoldable pub AllGoOn : PlainProblem → List Pair → Bool → List Level → List Meeting → List Event → Type 0
 AllGoOn p kept cut [] met events = events ≡ []
-AllGoOn p kept cut (c ∷ below) met events = (mid : List Meeting) × (next : List Event) × TriesRest p kept cut c met events mid next × GoOn p kept cut below mid next
+AllGoOn p kept cut (c ∷ below) met events = (mid : List Meeting) × (next : List Event) × TriesRest p kept cut c met events mid next ×
+    GoOn p kept cut below mid next
 
 -- the pairs have their numbers still
 abbrev pub StayPairs : List Pair → List Pair → Type 0
 StayPairs old new = (k : ℕ) (x : Pair) → slice_get old k ≡ Some x → slice_get new k ≡ Some x
 
 -- with whatever the levels go on to tell, the events are those of a depth-first search
-pub record IsFollowed (p : PlainProblem) (n : ℕ) (kept : List Pair) (most : List ℕ) (levels : List Level) (events : List Event) : Type 0 where
+pub record IsFollowed (p : PlainProblem) (n : ℕ) (kept : List Pair) (most : List ℕ) (levels : List Level)
+    (events : List Event) : Type 0 where
   pub met : List Meeting
   pub table : AreGreatest most met
-  pub goes_on : (all : List Pair) → StayPairs kept all → (cut : Bool) (rest : List Event) → AllGoOn p all cut (reverse levels) met rest → AreInDepth p n all cut (events ++ rest)
+  pub goes_on : (all : List Pair) → StayPairs kept all → (cut : Bool) (rest : List Event) → AllGoOn p all cut (reverse levels) met rest →
+      AreInDepth p n all cut (events ++ rest)

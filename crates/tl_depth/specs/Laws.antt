@@ -28,7 +28,8 @@ WalksAreOpenPaths = (p : PlainProblem) → (first_pair p).formula ≢ falsum →
 -- where nothing is left to expand, the kept pairs are those of open paths of at most n actions, and
 -- what follows for plans
 abbrev pub DepthFirstEnds : Type 0
-DepthFirstEnds = (p : PlainProblem) (n : ℕ) → (first_pair p).formula ≢ falsum → (told : List (Pair × Action)) (kept : List Pair) (most : List ℕ) (calls : ℕ)
+DepthFirstEnds = (p : PlainProblem) (n : ℕ) → (first_pair p).formula ≢ falsum →
+    (told : List (Pair × Action)) (kept : List Pair) (most : List ℕ) (calls : ℕ)
     → IsRunning pair_discrete (graph_of p) n (Told told) kept most [] calls → IsExhausted p n (Told told) kept most
 
 -- what a pair is that is met for the first time: a leading path has it; where it is accepted, that
@@ -45,7 +46,8 @@ DepthFirstMeets = (p : PlainProblem) (n : ℕ) → (first_pair p).formula ≢ fa
     → (told : List (Pair × Action)) (kept : List Pair) (most : List ℕ) (front : List Level) (c : Level) (calls : ℕ) (a : Action) (x : Pair)
     → IsRunning pair_discrete (graph_of p) n (Told told) kept most (front ++ c ∷ []) calls
     → slice_get c.actions c.tried ≡ Some a → slice_get kept c.at ≡ Some x
-    → HasNoSimplePlanBefore p n (path_of (front ++ c ∷ [])) × ((q : Pair) → unless_pruned (next_pair p x a) ≡ Some q → Each (λ y. y ≢ q) kept → IsMetFirst p n kept (path_of (front ++ c ∷ [])) q)
+    → HasNoSimplePlanBefore p n (path_of (front ++ c ∷ [])) × ((q : Pair) → unless_pruned (next_pair p x a) ≡ Some q →
+    Each (λ y. y ≢ q) kept → IsMetFirst p n kept (path_of (front ++ c ∷ [])) q)
 
 -- the calls are at most n times the number of executable actions of kept pairs of a distance below
 -- n

@@ -1,5 +1,6 @@
 -- What is true of a search between its steps.
-use Rattle.std.specs.Prelude.{◌≡◌, ◌≢◌, ◌≤◌, ◌<◌, ◌+◌, ◌*◌, ◌^◌, ℕ, suc, List, [], ◌∷◌, ◌++◌, length, slice_get, true, false, Option, Some, None}
+use Rattle.std.specs.Prelude.{◌≡◌, ◌≢◌, ◌≤◌, ◌<◌, ◌+◌, ◌*◌, ◌^◌, ℕ, suc, List, [], ◌∷◌, ◌++◌, length, slice_get, true, false, Option, Some}
+use Rattle.std.specs.Prelude.{None}
 use Rattle.tl_syntax.specs.declared.action.Action.{Action}
 use Rattle.tl_syntax.specs.Lists.{Each}
 use Rattle.tl_syntax.specs.Trees.{falsum}
@@ -85,13 +86,16 @@ to_do b w = entries_left b w.within w.most.items * (suc w.within * 2 ^ 64) + lev
 -- at the path, some action looks at what is past range in the world of the pair of the number; or
 -- want of memory
 abbrev pub IsEntryFault : PlainProblem → List Pair → ℕ → List Action → SearchFault → Type 0
-IsEntryFault p kept k at (fault.Range path note) = (path ≡ at) × ((x : Pair) → slice_get kept k ≡ Some x → (a : Action) × Tells (looked_by_action p x.world a) note)
+IsEntryFault p kept k at (fault.Range path note) = (path ≡ at) × ((x : Pair) → slice_get kept k ≡ Some x → (a : Action) ×
+    Tells (looked_by_action p x.world a) note)
 IsEntryFault p kept k at fault.NoMemory = Unit {0}
 
 -- a step leaves less to do, or ends the search
 abbrev pub Turned : PlainProblem → ℕ → List Pair → DepthFirst → DepthFirst → ℕ → Option Outcome → Type 0
-Turned p b kept old new calls None = IsOngoing p b kept new calls × (to_do b new < to_do b old) × (new.within ≡ old.within) × (new.watch ≡ old.watch)
-Turned p b kept old new calls (Some o) = IsDepthFirstOutcome p old.within b kept o × AreFewCalls p old.within kept calls × IsToldOutcome p old.within old.watch kept new.events o
+Turned p b kept old new calls None = IsOngoing p b kept new calls × (to_do b new < to_do b old) × (new.within ≡ old.within) ×
+    (new.watch ≡ old.watch)
+Turned p b kept old new calls (Some o) = IsDepthFirstOutcome p old.within b kept o × AreFewCalls p old.within kept calls ×
+    IsToldOutcome p old.within old.watch kept new.events o
 
 -- the pair of number k, which was kept last, is too many or accepted, and ends the search; or
 -- neither
@@ -121,8 +125,10 @@ pub record HasDoneNothing (w : DepthFirst) : Type 0 where
 -- the search began, or ended at once, with no call
 abbrev pub BeginsSearch : PlainProblem → ℕ → List Pair → DepthFirst → DepthFirst → Option Outcome → Type 0
 BeginsSearch p b kept old new None = IsOngoing p b kept new 0 × (new.within ≡ old.within) × (new.watch ≡ old.watch)
-BeginsSearch p b kept old new (Some o) = IsDepthFirstOutcome p old.within b kept o × AreFewCalls p old.within kept 0 × IsToldOutcome p old.within old.watch kept new.events o
+BeginsSearch p b kept old new (Some o) = IsDepthFirstOutcome p old.within b kept o × AreFewCalls p old.within kept 0 ×
+    IsToldOutcome p old.within old.watch kept new.events o
 
 -- the first pair alone is kept and told of, and it is not accepted
 abbrev pub HasRootAlone : PlainProblem → ℕ → List Pair → DepthFirst → Type 0
-HasRootAlone p b kept w = (x : Pair) × (unless_pruned (Some (first_pair p)) ≡ Some x) × (kept ≡ [] ++ x ∷ []) × (1 ≤ b) × (IsPairAccepted p x → ⊥) × HasDoneNothing w × (w.events ≡ events_after w.watch [] event.RootKept)
+HasRootAlone p b kept w = (x : Pair) × (unless_pruned (Some (first_pair p)) ≡ Some x) × (kept ≡ [] ++ x ∷ []) × (1 ≤ b) ×
+    (IsPairAccepted p x → ⊥) × HasDoneNothing w × (w.events ≡ events_after w.watch [] event.RootKept)

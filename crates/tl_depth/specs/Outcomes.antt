@@ -35,7 +35,8 @@ HasLastPair p kept plan = (k : ℕ) × (x : Pair) × (length kept ≡ k + 1) × 
 -- what the search answers: where it is not spent, at most b pairs are kept, which differ and each
 -- have a distance of at most n
 abbrev pub IsDepthFirstOutcome : PlainProblem → ℕ → ℕ → List Pair → Outcome → Type 0
-IsDepthFirstOutcome p n b kept (outcome.Plan plan) = IsFirstSimplePlan p n plan × HasLastPair p kept plan × (length kept ≤ b) × AreNear p n kept
+IsDepthFirstOutcome p n b kept (outcome.Plan plan) = IsFirstSimplePlan p n plan × HasLastPair p kept plan × (length kept ≤ b) ×
+    AreNear p n kept
 IsDepthFirstOutcome p n b kept outcome.NoPlan = HasNoPlan p × HasNoPairFrom p n × (length kept ≤ b) × AreNear p n kept
 IsDepthFirstOutcome p n b kept outcome.NoneWithin = HasNoPlanWithin p n × HasPairAt p n × (length kept ≤ b) × AreNear p n kept
 IsDepthFirstOutcome p n b kept outcome.Spent = IsSpent p n b kept × IsSpentDepthFirst p n kept
@@ -59,7 +60,8 @@ TellsInDepth p n watch kept cut events = watch ≡ true → AreInDepth p n kept 
 -- prefixes up to the plan's next one; where all is done, each of every pair of a distance below n;
 -- in depth-first order, which a plan or too many pairs cut short
 abbrev pub IsToldOutcome : PlainProblem → ℕ → Bool → List Pair → List Event → Outcome → Type 0
-IsToldOutcome p n watch kept events (outcome.Plan plan) = IsToldAlong p (Reported watch kept events) plan × TellsInDepth p n watch kept true events
+IsToldOutcome p n watch kept events (outcome.Plan plan) = IsToldAlong p (Reported watch kept events) plan ×
+    TellsInDepth p n watch kept true events
 IsToldOutcome p n watch kept events outcome.NoPlan = AllAreReported p n watch kept events × TellsInDepth p n watch kept false events
 IsToldOutcome p n watch kept events outcome.NoneWithin = AllAreReported p n watch kept events × TellsInDepth p n watch kept false events
 IsToldOutcome p n watch kept events outcome.Spent = TellsInDepth p n watch kept true events

@@ -46,4 +46,5 @@ pub record AddsCodes (codes : List ℕ) (others values : List Value) (new_codes 
 -- the actions of some heads are as before, and the action is that of one head more
 abbrev pub PacksOneMore : List ℕ → List Value → Head → Action → List ℕ → List Value → Type 0
 PacksOneMore codes others h a new_codes new_others = (heads : List Head) → ArePacked codes others heads
-    → ArePacked new_codes new_others (heads ++ h ∷ []) × (map (action_of new_codes new_others) (heads ++ h ∷ []) ≡ map (action_of codes others) heads ++ a ∷ [])
+    → ArePacked new_codes new_others (heads ++ h ∷ []) × (map (action_of new_codes new_others) (heads ++ h ∷ []) ≡
+    map (action_of codes others) heads ++ a ∷ [])

@@ -43,7 +43,8 @@ entered x m actions = record { node = x; left = m; tried = []; rest = actions }
 -- and each successor of it is explored to one less; to a depth of 0 it is only kept
 unfoldable pub IsExplored : {Node : Type 0} → ActionGraph Node → Memory Node → ℕ → Node → Type 0
 IsExplored {Node} g met zero y = (k : ℕ) × (met y ≡ Some k)
-IsExplored {Node} g met (suc l) y = (k : ℕ) × (met y ≡ Some k) × ((suc l ≤ k) ⊎ ((0 < k) × ((a : Action) (z : Node) → g.next y a ≡ Some z → IsExplored g met l z)))
+IsExplored {Node} g met (suc l) y = (k : ℕ) × (met y ≡ Some k) × ((suc l ≤ k) ⊎
+    ((0 < k) × ((a : Action) (z : Node) → g.next y a ≡ Some z → IsExplored g met l z)))
 
 -- where the action has a successor, that is explored to each depth below m
 abbrev pub IsCovered : {Node : Type 0} → ActionGraph Node → Memory Node → Node → ℕ → Action → Type 0
@@ -54,7 +55,8 @@ abbrev pub IsFruitless : {Node : Type 0} → ActionGraph Node → ℕ → List A
 IsFruitless g n path a = (rest : List Action) → IsSimpleGoalWalk g n (path ++ a ∷ rest) → ⊥
 
 -- a frame after a path: all that was done with
-pub record IsFrame {Node : Type 0} (g : ActionGraph Node) (n : ℕ) (reported : Reports Node) (met : Memory Node) (path : List Action) (f : Frame Node) : Type 0 where
+pub record IsFrame {Node : Type 0} (g : ActionGraph Node) (n : ℕ) (reported : Reports Node) (met : Memory Node) (path : List Action)
+    (f : Frame Node) : Type 0 where
   pub ends : node_after g path ≡ Some f.node
   pub budget : length path + f.left ≡ n
   pub some : 0 < f.left
@@ -75,7 +77,8 @@ pub record IsUnderWay {Node : Type 0} (reported : Reports Node) (f : Frame Node)
 abbrev pub AreFrames : {Node : Type 0} → ActionGraph Node → ℕ → Reports Node → Memory Node → List (Frame Node) → Type 0
 AreFrames g n reported met [] = Unit {0}
 AreFrames g n reported met (f ∷ below) =
-    IsFrame g n reported met (gone below) f × Each (λ h. h.node ≢ f.node) below × Each (IsUnderWay reported) below × AreFrames g n reported met below
+    IsFrame g n reported met (gone below) f × Each (λ h. h.node ≢ f.node) below × Each (IsUnderWay reported) below ×
+    AreFrames g n reported met below
 
 -- the node is being expanded
 abbrev pub IsOnStack : {Node : Type 0} → List (Frame Node) → Node → Type 0
@@ -96,7 +99,8 @@ abbrev pub IsDone : {Node : Type 0} → ActionGraph Node → Reports Node → Me
 IsDone g reported met x m = (a : Action) → IsTrue (g.executable x a) → IsCovered g met x m a × reported x a
 
 -- what is true at every moment
-pub record IsDepthFirst {Node : Type 0} (g : ActionGraph Node) (n : ℕ) (reported : Reports Node) (met : Memory Node) (stack : List (Frame Node)) : Type 0 where
+pub record IsDepthFirst {Node : Type 0} (g : ActionGraph Node) (n : ℕ) (reported : Reports Node) (met : Memory Node)
+    (stack : List (Frame Node)) : Type 0 where
   pub frames : AreFrames g n reported met stack
   pub kept : (x : Node) (m : ℕ) → met x ≡ Some m → IsKept g n x m
   pub done : (x : Node) (m : ℕ) → met x ≡ Some m → 0 < m → IsOnStack stack x ⊎ IsDone g reported met x m

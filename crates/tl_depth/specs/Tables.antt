@@ -32,7 +32,8 @@ AllDiffer (x ∷ kept) = Each (λ y. y ≢ x) kept × AllDiffer kept
 unfoldable pub IsWork : {Node : Type 0} → ActionGraph Node → List Node → List ℕ → ℕ → Type 0
 IsWork g [] most t = t ≡ 0
 IsWork g (x ∷ kept) [] t = ⊥
-IsWork g (x ∷ kept) (m ∷ most) t = (actions : List Action) × (rest : ℕ) × (0 < m → AreActionsOf g x actions) × (t ≡ m * length actions + rest) × IsWork g kept most rest
+IsWork g (x ∷ kept) (m ∷ most) t = (actions : List Action) × (rest : ℕ) × (0 < m → AreActionsOf g x actions) ×
+    (t ≡ m * length actions + rest) × IsWork g kept most rest
 
 -- some walk of fewer than n actions leads to the node
 pub record IsNearNode {Node : Type 0} (g : ActionGraph Node) (n : ℕ) (x : Node) : Type 0 where
@@ -46,7 +47,8 @@ unfoldable pub IsNearSum : {Node : Type 0} → ActionGraph Node → ℕ → List
 IsNearSum g n [] s = s ≡ 0
 IsNearSum g n (x ∷ kept) s =
     IsNearSum g n kept s
-    ⊎ ((actions : List Action) × (rest : ℕ) × IsNearNode g n x × AreActionsOf g x actions × (s ≡ length actions + rest) × IsNearSum g n kept rest)
+    ⊎ ((actions : List Action) × (rest : ℕ) × IsNearNode g n x × AreActionsOf g x actions × (s ≡ length actions + rest) ×
+    IsNearSum g n kept rest)
 
 -- how many actions of frames are not begun, those below the top frame being at their first
 abbrev pub unbegun_below : {Node : Type 0} → List (Frame Node) → ℕ
@@ -58,7 +60,8 @@ unbegun [] = 0
 unbegun (f ∷ below) = length f.rest + unbegun_below below
 
 -- the calls so far, and those that the stack will make for certain, are no more than the work
-pub record IsCounted {Node : Type 0} (g : ActionGraph Node) (kept : List Node) (most : List ℕ) (stack : List (Frame Node)) (calls : ℕ) : Type 0 where
+pub record IsCounted {Node : Type 0} (g : ActionGraph Node) (kept : List Node) (most : List ℕ) (stack : List (Frame Node))
+    (calls : ℕ) : Type 0 where
   pub total : ℕ
   pub work : IsWork g kept most total
   pub enough : calls + unbegun stack ≤ total

@@ -13,7 +13,8 @@ use Rattle.tl_depth.specs.Outcomes.{HasLastPair}
 -- the order of the events, and where they end: with the pair of the plan, with the one that is too
 -- many, or where no action is left
 abbrev pub StopsAt : PlainProblem → ℕ → ℕ → List KeptPair → List Event → Outcome → Type 0
-StopsAt p n b kept events (outcome.Plan plan) = AreInDepth p n (pairs_of kept) true events × EndsByKeeping kept events × HasLastPair p (pairs_of kept) plan
+StopsAt p n b kept events (outcome.Plan plan) = AreInDepth p n (pairs_of kept) true events × EndsByKeeping kept events ×
+    HasLastPair p (pairs_of kept) plan
 StopsAt p n b kept events outcome.NoPlan = AreInDepth p n (pairs_of kept) false events
 StopsAt p n b kept events outcome.NoneWithin = AreInDepth p n (pairs_of kept) false events
 StopsAt p n b kept events outcome.Spent = AreInDepth p n (pairs_of kept) true events × EndsByKeeping kept events × (length kept ≡ b + 1)

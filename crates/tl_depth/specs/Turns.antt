@@ -19,20 +19,24 @@ HasArrived p b kept w arrival left = (calls : ℕ) × IsArrived p b (pairs_of ke
 
 -- a search that went on has taken a turn
 abbrev pub Turns : PlainProblem → ℕ → List KeptPair → List KeptPair → DepthFirst → DepthFirst → ℕ → ℕ → Option Outcome → Type 0
-Turns p b old new w v before after o = (calls : ℕ) → IsOngoing p b (pairs_of old) w calls → TurnedTo p b (pairs_of new) w v calls before after o
+Turns p b old new w v before after o = (calls : ℕ) → IsOngoing p b (pairs_of old) w calls →
+    TurnedTo p b (pairs_of new) w v calls before after o
 
 -- a search that went on has tried the top level's next action, and this arrived
 abbrev pub TriesTop : PlainProblem → ℕ → List KeptPair → List KeptPair → DepthFirst → DepthFirst → ℕ → Arrival → Type 0
-TriesTop p b old new w v left arrival = (calls : ℕ) → IsOngoing p b (pairs_of old) w calls → IsArrived p b (pairs_of new) v arrival left calls
+TriesTop p b old new w v left arrival = (calls : ℕ) → IsOngoing p b (pairs_of old) w calls →
+    IsArrived p b (pairs_of new) v arrival left calls
 
 -- a search at which this arrived has taken its turn, with one call
 abbrev pub TurnsBy : PlainProblem → ℕ → List KeptPair → DepthFirst → DepthFirst → Arrival → ℕ → Option Outcome → Type 0
-TurnsBy p b kept w v arrival left o = (calls : ℕ) → IsArrived p b (pairs_of kept) w arrival left calls → Turned p b (pairs_of kept) w v (calls + 1) o
+TurnsBy p b kept w v arrival left o = (calls : ℕ) → IsArrived p b (pairs_of kept) w arrival left calls →
+    Turned p b (pairs_of kept) w v (calls + 1) o
 
 -- the calls are few still, and those that were made are the steps that were ticked
 abbrev pub CallsStayFew : PlainProblem → ℕ → List KeptPair → List KeptPair → DepthFirst → ℕ → ℕ → Type 0
 CallsStayFew p b old new w before after =
-    (calls : ℕ) → IsOngoing p b (pairs_of old) w calls → (made : ℕ) × (made + before ≡ calls + after) × AreFewCalls p w.within (pairs_of new) made
+    (calls : ℕ) → IsOngoing p b (pairs_of old) w calls → (made : ℕ) × (made + before ≡ calls + after) ×
+    AreFewCalls p w.within (pairs_of new) made
 
 -- with one more call the calls are few still
 abbrev pub OneCallStaysFew : PlainProblem → ℕ → List KeptPair → List KeptPair → DepthFirst → Type 0

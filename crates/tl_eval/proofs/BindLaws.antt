@@ -17,8 +17,10 @@ bind-outside (s ∷ ss) (v ∷ u) e q h = ap (λ (b : Bool). cond b (Some v) (bi
 
 bind-agree : (ss : List Var) (t : List Value) (d e : Assignment) (q : ℕ) → (Outside q ss → d q ≡ e q) → bind ss t d q ≡ bind ss t e q
 bind-agree [] t d e q h = h tt
-bind-agree (s ∷ ss) [] d e q h = (elim (q == s.slot) as (λ b. (q == s.slot) ≡ b → cond b None (bind ss [] d q) ≡ cond b None (bind ss [] e q)) [ true ↦ λ x. refl | false ↦ λ x. bind-agree ss [] d e q (λ o. h (x, o)) ]) refl
-bind-agree (s ∷ ss) (v ∷ t) d e q h = (elim (q == s.slot) as (λ b. (q == s.slot) ≡ b → cond b (Some v) (bind ss t d q) ≡ cond b (Some v) (bind ss t e q)) [ true ↦ λ x. refl | false ↦ λ x. bind-agree ss t d e q (λ o. h (x, o)) ]) refl
+bind-agree (s ∷ ss) [] d e q h = (elim (q == s.slot) as (λ b. (q == s.slot) ≡ b → cond b None (bind ss [] d q) ≡
+    cond b None (bind ss [] e q)) [ true ↦ λ x. refl | false ↦ λ x. bind-agree ss [] d e q (λ o. h (x, o)) ]) refl
+bind-agree (s ∷ ss) (v ∷ t) d e q h = (elim (q == s.slot) as (λ b. (q == s.slot) ≡ b → cond b (Some v) (bind ss t d q) ≡
+    cond b (Some v) (bind ss t e q)) [ true ↦ λ x. refl | false ↦ λ x. bind-agree ss t d e q (λ o. h (x, o)) ]) refl
 
 -- the later values count
 pub bind-again : (ss : List Var) (t u : List Value) (e : Assignment) → bind ss t (bind ss u e) ≡ bind ss t e

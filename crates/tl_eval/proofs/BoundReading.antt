@@ -27,18 +27,21 @@ stands-lawful ss e b None h = tt
 stands-lawful ss e b (Some p) h = h.lawful
 
 -- before the first tuple
-pub begins_reading : (s : Situation) (b : Bound) (p : Option Pattern) (r : Reading) → r.world ≡ world_read s b → r.pattern ≡ p → r.tuple ≡ None → ReadsWhatStands s b p r
+pub begins_reading : (s : Situation) (b : Bound) (p : Option Pattern) (r : Reading) → r.world ≡ world_read s b → r.pattern ≡ p → r.tuple ≡
+    None → ReadsWhatStands s b p r
 begins_reading s b p r world pattern tuple ss e stands = record {
   stands = subst (IsPatternOf ss e b) (sym pattern) stands;
   world = world;
   size = subst (λ (o : Option (List Value)). IfSome o (λ t. length t ≡ length ss)) (sym tuple) tt;
 }
 
-next-by : (s : Situation) (ss : List Var) (e : Assignment) (b : Bound) (w : World) (o : Option Pattern) (after next : Option (List Value)) → IsPatternOf ss e b o → w ≡ world_read s b → IsNextBy w o after next → IsNextTuple s ss e b after next
+next-by : (s : Situation) (ss : List Var) (e : Assignment) (b : Bound) (w : World) (o : Option Pattern) (after next : Option (List Value)) →
+    IsPatternOf ss e b o → w ≡ world_read s b → IsNextBy w o after next → IsNextTuple s ss e b after next
 next-by s ss e b w None after next stands k n = subst (IsNextTuple s ss e b after) (sym n) (never-next ss e b None s after refl stands)
 next-by s ss e b w (Some p) after next stands k n = found-next ss e b (Some p) p s w after next refl stands k n
 
-next-size : (k : ℕ) (test : List Value → Bool) (after next : Option (List Value)) → IsNext k test after next → IfSome next (λ t. length t ≡ k)
+next-size : (k : ℕ) (test : List Value → Bool) (after next : Option (List Value)) → IsNext k test after next →
+    IfSome next (λ t. length t ≡ k)
 next-size k test after None h = tt
 next-size k test after (Some m) h = h.0.0
 

@@ -53,11 +53,14 @@ module _ {A : Type 0} (stop : Bool) (truth : A → Bool) (looked : A → List Op
   pub through-begun : (all : List A) → Through stop truth looked all all
   through-begun all = record { values = refl; carried = record { in_range = λ a. a; among = λ o a. a } }
 
-  pub through-on : (all : List A) (x : A) (rest : List A) (b : Bool) → Through stop truth looked all (x ∷ rest) → Evaluates (truth x) (looked x) (Ok b) → (b ≡ stop → ⊥) → Through stop truth looked all rest
+  pub through-on : (all : List A) (x : A) (rest : List A) (b : Bool) → Through stop truth looked all (x ∷ rest) →
+      Evaluates (truth x) (looked x) (Ok b) → (b ≡ stop → ⊥) → Through stop truth looked all rest
   through-on all x rest b t found open_still =
       let past : goes_past stop (truth x) ≡ true = ap (goes_past stop) (sym found.0) ∙ stays-open stop b open_still in
-      let looks : looked_until stop truth looked (x ∷ rest) ≡ looked x ++ looked_until stop truth looked rest = ap (λ (g : Bool). followed_if g (looked x) (looked_until stop truth looked rest)) past in
-      let carried : Carries (looked_until stop truth looked all) (looked x ++ looked_until stop truth looked rest) = subst (Carries (looked_until stop truth looked all)) looks t.carried in
+      let looks : looked_until stop truth looked (x ∷ rest) ≡ looked x ++ looked_until stop truth looked rest =
+      ap (λ (g : Bool). followed_if g (looked x) (looked_until stop truth looked rest)) past in
+      let carried : Carries (looked_until stop truth looked all) (looked x ++ looked_until stop truth looked rest) =
+      subst (Carries (looked_until stop truth looked all)) looks t.carried in
       record {
         values = t.values ∙ ap (λ (g : Bool). cond g (decided stop truth rest) stop) past;
         carried = record {
@@ -66,18 +69,22 @@ module _ {A : Type 0} (stop : Bool) (truth : A → Bool) (looked : A → List Op
         };
       }
 
-  pub through-stop : (all : List A) (x : A) (rest : List A) (b : Bool) → Through stop truth looked all (x ∷ rest) → Evaluates (truth x) (looked x) (Ok b) → b ≡ stop → Evaluates (decided stop truth all) (looked_until stop truth looked all) (Ok stop)
+  pub through-stop : (all : List A) (x : A) (rest : List A) (b : Bool) → Through stop truth looked all (x ∷ rest) →
+      Evaluates (truth x) (looked x) (Ok b) → b ≡ stop → Evaluates (decided stop truth all) (looked_until stop truth looked all) (Ok stop)
   through-stop all x rest b t found q =
       let past : goes_past stop (truth x) ≡ false = ap (goes_past stop) (sym found.0) ∙ is-decided stop b q in
-      let looks : looked_until stop truth looked (x ∷ rest) ≡ looked x ++ [] = ap (λ (g : Bool). followed_if g (looked x) (looked_until stop truth looked rest)) past in (
+      let looks : looked_until stop truth looked (x ∷ rest) ≡ looked x ++ [] =
+      ap (λ (g : Bool). followed_if g (looked x) (looked_until stop truth looked rest)) past in (
         sym (t.values ∙ ap (λ (g : Bool). cond g (decided stop truth rest) stop) past),
         t.carried.in_range (subst AreInRange (sym looks) (in_range-append (looked x) [] found.1 tt)),
       )
 
-  pub through-noted : (all : List A) (x : A) (rest : List A) (n : RangeNote) → Through stop truth looked all (x ∷ rest) → Tells (looked x) n → Tells (looked_until stop truth looked all) n
+  pub through-noted : (all : List A) (x : A) (rest : List A) (n : RangeNote) → Through stop truth looked all (x ∷ rest) →
+      Tells (looked x) n → Tells (looked_until stop truth looked all) n
   through-noted all x rest n t found = (t.carried.among (operation_of n) (among-left (operation_of n) (looked x) _ found.0), found.1)
 
-  pub through-end : (all : List A) → Through stop truth looked all [] → Evaluates (decided stop truth all) (looked_until stop truth looked all) (Ok (not stop))
+  pub through-end : (all : List A) → Through stop truth looked all [] →
+      Evaluates (decided stop truth all) (looked_until stop truth looked all) (Ok (not stop))
   through-end all t = (sym t.values, t.carried.in_range tt)
 
 -- ---- conjunctions, disjunctions and quantifiers are decided in this way
@@ -91,29 +98,35 @@ and-cond true b = refl
 and-cond false b = refl
 
 module _ (d : LookedTable) (s : Situation) (e : Assignment) where
-  pub joined-truth : (j : Junction) (stop : Bool) → stop ≡ deciding_truth j → (fs : List FormulaTree) → state_true s e (joined j (formulas_of_list fs)) ≡ decided stop (state_true s e) fs
+  pub joined-truth : (j : Junction) (stop : Bool) → stop ≡ deciding_truth j → (fs : List FormulaTree) →
+      state_true s e (joined j (formulas_of_list fs)) ≡ decided stop (state_true s e) fs
   unfolding state_true
   joined-truth Any stop q fs = some fs ∙ ap (λ (b : Bool). decided b (state_true s e) fs) (sym q)
     where
       some : (fs : List FormulaTree) → one_true s e (formulas_of_list fs) ≡ decided true (state_true s e) fs
       some [] = refl
-      some (f ∷ fs) = or-cond (state_true s e f) (one_true s e (formulas_of_list fs)) ∙ ap (λ (b : Bool). cond (not (state_true s e f)) b true) (some fs)
+      some (f ∷ fs) = or-cond (state_true s e f) (one_true s e (formulas_of_list fs)) ∙
+          ap (λ (b : Bool). cond (not (state_true s e f)) b true) (some fs)
   joined-truth All stop q fs = all fs ∙ ap (λ (b : Bool). decided b (state_true s e) fs) (sym q)
     where
       all : (fs : List FormulaTree) → all_true s e (formulas_of_list fs) ≡ decided false (state_true s e) fs
       all [] = refl
-      all (f ∷ fs) = and-cond (state_true s e f) (all_true s e (formulas_of_list fs)) ∙ ap (λ (b : Bool). cond (state_true s e f) b false) (all fs)
+      all (f ∷ fs) = and-cond (state_true s e f) (all_true s e (formulas_of_list fs)) ∙
+          ap (λ (b : Bool). cond (state_true s e f) b false) (all fs)
 
-  pub joined-looks : (j : Junction) (stop : Bool) → stop ≡ deciding_truth j → (fs : List FormulaTree) → looked_in_state d s e (joined j (formulas_of_list fs)) ≡ looked_until stop (state_true s e) (looked_in_state d s e) fs
+  pub joined-looks : (j : Junction) (stop : Bool) → stop ≡ deciding_truth j → (fs : List FormulaTree) →
+      looked_in_state d s e (joined j (formulas_of_list fs)) ≡ looked_until stop (state_true s e) (looked_in_state d s e) fs
   unfolding looked_in_state
   joined-looks Any stop q fs = some fs ∙ ap (λ (b : Bool). looked_until b (state_true s e) (looked_in_state d s e) fs) (sym q)
     where
-      some : (fs : List FormulaTree) → looked_in_or d s e (formulas_of_list fs) ≡ looked_until true (state_true s e) (looked_in_state d s e) fs
+      some : (fs : List FormulaTree) → looked_in_or d s e (formulas_of_list fs) ≡
+          looked_until true (state_true s e) (looked_in_state d s e) fs
       some [] = refl
       some (f ∷ fs) = ap (followed_if (not (state_true s e f)) (looked_in_state d s e f)) (some fs)
   joined-looks All stop q fs = all fs ∙ ap (λ (b : Bool). looked_until b (state_true s e) (looked_in_state d s e) fs) (sym q)
     where
-      all : (fs : List FormulaTree) → looked_in_and d s e (formulas_of_list fs) ≡ looked_until false (state_true s e) (looked_in_state d s e) fs
+      all : (fs : List FormulaTree) → looked_in_and d s e (formulas_of_list fs) ≡
+          looked_until false (state_true s e) (looked_in_state d s e) fs
       all [] = refl
       all (f ∷ fs) = ap (followed_if (state_true s e f) (looked_in_state d s e f)) (all fs)
 
@@ -133,20 +146,27 @@ all-decided : (truth : List Value → Bool) (ts : List (List Value)) → list_al
 all-decided truth [] = refl
 all-decided truth (t ∷ ts) = and-cond (truth t) (list_all truth ts) ∙ ap (λ (b : Bool). cond (truth t) b false) (all-decided truth ts)
 
-turn-until : (stop : Bool) (truth : List Value → Bool) (looked : List Value → List Operation) (ts : List (List Value)) → looked_in_turn looked (λ t. goes_past stop (truth t)) ts ≡ looked_until stop truth looked ts
+turn-until : (stop : Bool) (truth : List Value → Bool) (looked : List Value → List Operation) (ts : List (List Value)) →
+    looked_in_turn looked (λ t. goes_past stop (truth t)) ts ≡ looked_until stop truth looked ts
 turn-until stop truth looked [] = refl
 turn-until stop truth looked (t ∷ ts) = ap (followed_if (goes_past stop (truth t)) (looked t)) (turn-until stop truth looked ts)
 
 module _ (d : LookedTable) (s : Situation) (e : Assignment) (ss : List Var) (b : Bound) (f : FormulaTree) where
-  pub quantified-truth : (j : Junction) (stop : Bool) → stop ≡ deciding_truth j → state_true s e (quantified j ss b f) ≡ decided stop (instance_truth s e ss f) (tuples s e ss b)
+  pub quantified-truth : (j : Junction) (stop : Bool) → stop ≡ deciding_truth j → state_true s e (quantified j ss b f) ≡
+      decided stop (instance_truth s e ss f) (tuples s e ss b)
   unfolding state_true
-  quantified-truth Any stop q = any-decided (instance_truth s e ss f) (tuples s e ss b) ∙ ap (λ (x : Bool). decided x (instance_truth s e ss f) (tuples s e ss b)) (sym q)
-  quantified-truth All stop q = all-decided (instance_truth s e ss f) (tuples s e ss b) ∙ ap (λ (x : Bool). decided x (instance_truth s e ss f) (tuples s e ss b)) (sym q)
+  quantified-truth Any stop q = any-decided (instance_truth s e ss f) (tuples s e ss b) ∙
+      ap (λ (x : Bool). decided x (instance_truth s e ss f) (tuples s e ss b)) (sym q)
+  quantified-truth All stop q = all-decided (instance_truth s e ss f) (tuples s e ss b) ∙
+      ap (λ (x : Bool). decided x (instance_truth s e ss f) (tuples s e ss b)) (sym q)
 
-  pub quantified-looks : (j : Junction) (stop : Bool) → stop ≡ deciding_truth j → looked_in_state d s e (quantified j ss b f) ≡ looked_until stop (instance_truth s e ss f) (instance_looks d s e ss f) (tuples s e ss b)
+  pub quantified-looks : (j : Junction) (stop : Bool) → stop ≡ deciding_truth j → looked_in_state d s e (quantified j ss b f) ≡
+      looked_until stop (instance_truth s e ss f) (instance_looks d s e ss f) (tuples s e ss b)
   unfolding looked_in_state
-  quantified-looks Any stop q = turn-until true (instance_truth s e ss f) (instance_looks d s e ss f) (tuples s e ss b) ∙ ap (λ (x : Bool). looked_until x (instance_truth s e ss f) (instance_looks d s e ss f) (tuples s e ss b)) (sym q)
-  quantified-looks All stop q = turn-until false (instance_truth s e ss f) (instance_looks d s e ss f) (tuples s e ss b) ∙ ap (λ (x : Bool). looked_until x (instance_truth s e ss f) (instance_looks d s e ss f) (tuples s e ss b)) (sym q)
+  quantified-looks Any stop q = turn-until true (instance_truth s e ss f) (instance_looks d s e ss f) (tuples s e ss b) ∙
+      ap (λ (x : Bool). looked_until x (instance_truth s e ss f) (instance_looks d s e ss f) (tuples s e ss b)) (sym q)
+  quantified-looks All stop q = turn-until false (instance_truth s e ss f) (instance_looks d s e ss f) (tuples s e ss b) ∙
+      ap (λ (x : Bool). looked_until x (instance_truth s e ss f) (instance_looks d s e ss f) (tuples s e ss b)) (sym q)
 
 -- ---- what a test of two truths and a match that fails say
 

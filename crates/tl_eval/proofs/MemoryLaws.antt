@@ -1,5 +1,6 @@
 -- What the entries of a memory say, as entries are put in place and found.
-use Rattle.std.proofs.Common.{◌≡◌, ◌<◌, ◌≤◌, ◌==◌, ℕ, zero, suc, List, [], ◌∷◌, length, take, replicate, get_or, cond, Bool, true, false, refl, sym, ap, ◌∙◌, subst, inl, inr, arith}
+use Rattle.std.proofs.Common.{◌≡◌, ◌<◌, ◌≤◌, ◌==◌, ℕ, zero, suc, List, [], ◌∷◌, length, take, replicate, get_or, cond, Bool, true, false}
+use Rattle.std.proofs.Common.{refl, sym, ap, ◌∙◌, subst, inl, inr, arith}
 use borrow.Author.Tests.{eq-eqb, ne_eqb}
 use Rattle.std.proofs.lemmas.Bool.{eqb-true}
 use Rattle.std.specs.Prelude.{slice_set}
@@ -38,7 +39,8 @@ before-next g h [] l up = tt
 before-next g h (e ∷ es) l up = (let first = up.0 in omega arith, before-next g h es l up.1)
 
 -- one more of the generation
-pub put-before : (g : ℕ) (es : List Entry) (i : ℕ) (e : Entry) → e.generation ≡ g → Each (λ x. x.generation ≤ g) es → Each (λ x. x.generation ≤ g) (slice_set es i e)
+pub put-before : (g : ℕ) (es : List Entry) (i : ℕ) (e : Entry) → e.generation ≡ g → Each (λ x. x.generation ≤ g) es →
+    Each (λ x. x.generation ≤ g) (slice_set es i e)
 put-before g [] i e h up = tt
 put-before g (x ∷ es) zero e h up = (omega arith, up.1)
 put-before g (x ∷ es) (suc i) e h up = (up.0, put-before g es i e h up.1)
@@ -53,13 +55,16 @@ more-said g x es r h = by (x.generation == g)
     by false = h
 
 -- the same entry for all that matters
-pub says : (e : Entry) (n k : ℕ) (vs : List Value) → e.number ≡ n → e.level ≡ k → take e.count e.values ≡ vs → said e ≡ remembered n k vs e.truth
+pub says : (e : Entry) (n k : ℕ) (vs : List Value) → e.number ≡ n → e.level ≡ k → take e.count e.values ≡ vs → said e ≡
+    remembered n k vs e.truth
 says e n k vs p q r = λ i. remembered (p i) (q i) (r i) e.truth
 
 -- what an entry of the generation says is among what they say
-pub among-said : (g : ℕ) (es : List Entry) (i : ℕ) (e : Entry) → i < length es → e ≡ get_or es i e → e.generation ≡ g → Among (said e) (said_in g es)
+pub among-said : (g : ℕ) (es : List Entry) (i : ℕ) (e : Entry) → i < length es → e ≡ get_or es i e → e.generation ≡ g →
+    Among (said e) (said_in g es)
 among-said g [] i e h q l = absurd (omega arith)
-among-said g (x ∷ es) zero e h q l = subst (Among (said e)) (sym (at-first g x es (ap (λ (y : Entry). y.generation) (sym q) ∙ l))) (inl (ap said (sym q)))
+among-said g (x ∷ es) zero e h q l = subst (Among (said e)) (sym (at-first g x es (ap (λ (y : Entry). y.generation) (sym q) ∙ l)))
+    (inl (ap said (sym q)))
 among-said g (x ∷ es) (suc i) e h q l = more-said g x es (said e) (among-said g es i e (omega arith) q l)
 
 -- each of a list is one of others that have them all
@@ -72,7 +77,8 @@ pub same-from : (r : Remembered) (rs : List Remembered) → AreFrom r rs rs
 same-from r rs = each-of r rs rs (λ x h. h)
 
 -- so they are with more others
-widened : (r : Remembered) (xs others more : List Remembered) → ((x : Remembered) → Among x others → Among x more) → AreFrom r others xs → AreFrom r more xs
+widened : (r : Remembered) (xs others more : List Remembered) → ((x : Remembered) → Among x others → Among x more) → AreFrom r others xs →
+    AreFrom r more xs
 widened r [] others more f a = tt
 widened r (x ∷ xs) others more f a = (elim a.0 [ inl q ↦ inl q | inr h ↦ inr (f x h) ], widened r xs others more f a.1)
 
@@ -81,20 +87,24 @@ unfolding said_in
 none-said g e = tt
 
 -- so it is with one more before them
-put-later : (g : ℕ) (x : Entry) (es fs : List Entry) (e : Entry) → AreFrom (said e) (said_in g es) (said_in g fs) → AreFrom (said e) (said_in g (x ∷ es)) (said_in g (x ∷ fs))
+put-later : (g : ℕ) (x : Entry) (es fs : List Entry) (e : Entry) → AreFrom (said e) (said_in g es) (said_in g fs) →
+    AreFrom (said e) (said_in g (x ∷ es)) (said_in g (x ∷ fs))
 put-later g x es fs e a = by (x.generation == g) refl
   where
     rest : AreFrom (said e) (said_in g (x ∷ es)) (said_in g fs)
     rest = widened (said e) (said_in g fs) (said_in g es) (said_in g (x ∷ es)) (more-said g x es) a
 
     by : (b : Bool) → (x.generation == g) ≡ b → AreFrom (said e) (said_in g (x ∷ es)) (said_in g (x ∷ fs))
-    by true k = subst (AreFrom (said e) (said_in g (x ∷ es))) (sym (at-first g x fs (eqb-true x.generation g k))) (inr (subst (Among (said x)) (sym (at-first g x es (eqb-true x.generation g k))) (inl refl)), rest)
+    by true k = subst (AreFrom (said e) (said_in g (x ∷ es))) (sym (at-first g x fs (eqb-true x.generation g k)))
+        (inr (subst (Among (said x)) (sym (at-first g x es (eqb-true x.generation g k))) (inl refl)), rest)
     by false k = subst (AreFrom (said e) (said_in g (x ∷ es))) (sym (skipped g x fs k)) rest
 
 -- once an entry is put in place, they say what it says and what was said before
-pub put-said : (g : ℕ) (es : List Entry) (i : ℕ) (e : Entry) → e.generation ≡ g → AreFrom (said e) (said_in g es) (said_in g (slice_set es i e))
+pub put-said : (g : ℕ) (es : List Entry) (i : ℕ) (e : Entry) → e.generation ≡ g →
+    AreFrom (said e) (said_in g es) (said_in g (slice_set es i e))
 put-said g [] i e h = none-said g e
-put-said g (x ∷ es) zero e h = subst (AreFrom (said e) (said_in g (x ∷ es))) (sym (at-first g e es h)) (inl refl, each-of (said e) (said_in g es) (said_in g (x ∷ es)) (more-said g x es))
+put-said g (x ∷ es) zero e h = subst (AreFrom (said e) (said_in g (x ∷ es))) (sym (at-first g e es h))
+    (inl refl, each-of (said e) (said_in g es) (said_in g (x ∷ es)) (more-said g x es))
 put-said g (x ∷ es) (suc i) e h = put-later g x es (slice_set es i e) e (put-said g es i e h)
 
 -- of entries that were cleared, none says anything

@@ -1,5 +1,6 @@
 -- The parts for leading arguments of a list.
-use Rattle.std.proofs.Common.{◌≡◌, ◌<◌, ℕ, zero, suc, List, [], ◌∷◌, map, take, length, get_or, Bool, true, false, Option, Some, None, sym, ap, ◌∙◌, inl, inr, arith}
+use Rattle.std.proofs.Common.{◌≡◌, ◌<◌, ℕ, zero, suc, List, [], ◌∷◌, map, take, length, get_or, Bool, true, false, Option, Some, None, sym}
+use Rattle.std.proofs.Common.{ap, ◌∙◌, inl, inr, arith}
 use Rattle.tl_eval.specs.InPlace.{in_place}
 use Rattle.tl_eval.specs.PatternOf.{part_for, AreParts}
 use Rattle.tl_syntax.specs.declared.variable.Arg.{Arg}
@@ -19,7 +20,8 @@ among-mapped f (u ∷ xs) zero d y h k = inl k
 among-mapped f (u ∷ xs) (suc n) d y h k = inr (among-mapped f xs n d y (omega arith) k)
 
 -- where the argument at a position has no part, some argument has none
-pub parts-none : (ss : List Var) (e : Assignment) (xs : List Arg) (n : ℕ) (d : Arg) (o : Option Part) → n < length xs → o ≡ part_for ss e (get_or xs n d) → o ≡ None → AreParts ss e xs None
+pub parts-none : (ss : List Var) (e : Assignment) (xs : List Arg) (n : ℕ) (d : Arg) (o : Option Part) → n < length xs → o ≡
+    part_for ss e (get_or xs n d) → o ≡ None → AreParts ss e xs None
 parts-none ss e xs n d o h k l = among-mapped (part_for ss e) xs n d None h (sym k ∙ l)
 
 -- what counts, and what does not

@@ -17,12 +17,18 @@ use Rattle.tl_terms.specs.Truth.{state_true}
 use Rattle.tl_terms.specs.World.{World}
 
 module _ (w : World) (env frame : List (Option Value)) (f : Formula) where
-  pub plain-Atom : (c : ℕ) (ts : Terms) (r : Option Bool) → frame ≡ env → f ≡ formula.Atom c ts → IfSome r (λ b. IsAtomTruth w frame c (tree_of_terms ts) (Ok b)) → IfSome r (IsPlainTruth w env (tree_of_formula f))
+  pub plain-Atom : (c : ℕ) (ts : Terms) (r : Option Bool) → frame ≡ env → f ≡ formula.Atom c ts →
+      IfSome r (λ b. IsAtomTruth w frame c (tree_of_terms ts) (Ok b)) → IfSome r (IsPlainTruth w env (tree_of_formula f))
   unfolding state_true situation_of
   plain-Atom c ts None q k h = tt
-  plain-Atom c ts (Some b) q k h = λ p. subst (λ (v : List (Option Value)). b ≡ state_true (situation_of p w) (assignment_in v) (tree_of_formula f)) q (h.0 ∙ sym (ap (state_true (situation_of p w) (assignment_in frame)) (ap tree_of_formula k ∙ tree-Atom c ts)))
+  plain-Atom c ts (Some b) q k h = λ p. subst (λ (v : List (Option Value)). b ≡
+      state_true (situation_of p w) (assignment_in v) (tree_of_formula f)) q
+      (h.0 ∙ sym (ap (state_true (situation_of p w) (assignment_in frame)) (ap tree_of_formula k ∙ tree-Atom c ts)))
 
-  pub plain-Compare : (c : Cmp) (s t : Term) (r : Option Bool) → frame ≡ env → f ≡ formula.Compare c s t → IfSome r (IsPlainComparison frame c s t) → IfSome r (IsPlainTruth w env (tree_of_formula f))
+  pub plain-Compare : (c : Cmp) (s t : Term) (r : Option Bool) → frame ≡ env → f ≡ formula.Compare c s t →
+      IfSome r (IsPlainComparison frame c s t) → IfSome r (IsPlainTruth w env (tree_of_formula f))
   unfolding state_true situation_of
   plain-Compare c s t None q k h = tt
-  plain-Compare c s t (Some b) q k h = λ p. subst (λ (v : List (Option Value)). b ≡ state_true (situation_of p w) (assignment_in v) (tree_of_formula f)) q ((h w).0 ∙ sym (ap (state_true (situation_of p w) (assignment_in frame)) (ap tree_of_formula k ∙ tree-Compare c s t)))
+  plain-Compare c s t (Some b) q k h = λ p. subst (λ (v : List (Option Value)). b ≡
+      state_true (situation_of p w) (assignment_in v) (tree_of_formula f)) q
+      ((h w).0 ∙ sym (ap (state_true (situation_of p w) (assignment_in frame)) (ap tree_of_formula k ∙ tree-Compare c s t)))

@@ -1,5 +1,6 @@
 -- What an atom of a definition means and looks at, where a formula is read: its body, one level lower.
-use Rattle.std.proofs.Common.{◌≡◌, ◌≤◌, ◌<◌, ◌+◌, ◌==◌, ◌⊎◌, ℕ, zero, suc, List, [], ◌∷◌, ◌++◌, fold, take, cond, length, slice_get, Bool, false, Option, Some, None, refl, sym, ap, ap₂, ◌∙◌, inl, inr, arith}
+use Rattle.std.proofs.Common.{◌≡◌, ◌≤◌, ◌<◌, ◌+◌, ◌==◌, ◌⊎◌, ℕ, zero, suc, List, [], ◌∷◌, ◌++◌, fold, take, cond, length, slice_get, Bool}
+use Rattle.std.proofs.Common.{false, Option, Some, None, refl, sym, ap, ap₂, ◌∙◌, inl, inr, arith}
 use borrow.Author.Tests.{eq-eqb, ne_eqb}
 use native.Mathlib.Decide.{dec_lt}
 use Rattle.std.proofs.lemmas.Option.{slice_get_within}
@@ -81,11 +82,13 @@ module _ (p : PlainProblem) (w : World) where
 
   tests-length : (ts : Tests) (ds : List PlainDefinition) → length (tests_over ts ds) ≡ length ts + length ds
   tests-length ts [] = omega arith
-  tests-length ts (d ∷ ds) = let more = tests-length (with_tests_of p w ts d) ds in let one = longer ts (true_at_level p w ts d d.levels) in omega arith
+  tests-length ts (d ∷ ds) = let more = tests-length (with_tests_of p w ts d) ds in let one = longer ts (true_at_level p w ts d d.levels) in
+      omega arith
 
   tests-stay : (ts : Tests) (ds : List PlainDefinition) (k : ℕ) → k < length ts → slice_get (tests_over ts ds) k ≡ slice_get ts k
   tests-stay ts [] k h = refl
-  tests-stay ts (d ∷ ds) k h = tests-stay (with_tests_of p w ts d) ds k (omega (arith, longer ts (true_at_level p w ts d d.levels))) ∙ front-get ts (true_at_level p w ts d d.levels ∷ []) k h
+  tests-stay ts (d ∷ ds) k h = tests-stay (with_tests_of p w ts d) ds k (omega (arith, longer ts (true_at_level p w ts d d.levels))) ∙
+      front-get ts (true_at_level p w ts d d.levels ∷ []) k h
 
   tests-at : (ts : Tests) (ds : List PlainDefinition) (k j : ℕ) (d : PlainDefinition) → slice_get ds k ≡ Some d → j ≡ length ts + k
       → slice_get (tests_over ts ds) j ≡ Some (true_at_level p w (tests_over ts (take k ds)) d d.levels)
@@ -93,30 +96,40 @@ module _ (p : PlainProblem) (w : World) where
   tests-at ts (c ∷ ds) zero j d e q =
       let same : c ≡ d = cc in
       tests-stay (with_tests_of p w ts c) ds j (omega (arith, longer ts (true_at_level p w ts c c.levels)))
-      ∙ (end-get ts (true_at_level p w ts c c.levels) j (omega arith) ∙ ap (λ (x : PlainDefinition). Some (true_at_level p w ts x x.levels)) same)
-  tests-at ts (c ∷ ds) (suc k) j d e q = tests-at (with_tests_of p w ts c) ds k j d e (omega (arith, longer ts (true_at_level p w ts c c.levels)))
+      ∙ (end-get ts (true_at_level p w ts c c.levels) j (omega arith) ∙
+      ap (λ (x : PlainDefinition). Some (true_at_level p w ts x x.levels)) same)
+  tests-at ts (c ∷ ds) (suc k) j d e q = tests-at (with_tests_of p w ts c) ds k j d e
+      (omega (arith, longer ts (true_at_level p w ts c c.levels)))
 
   -- ---- what they look at
 
   looks-length : (ts : Tests) (ls : Looks) (ds : List PlainDefinition) → length (looks_over p w ts ls ds) ≡ length ls + length ds
   unfolding looks_over
   looks-length ts ls [] = omega arith
-  looks-length ts ls (d ∷ ds) = let more = looks-length (with_tests_of p w ts d) (ls ++ looked_at_level p w ts ls d d.levels ∷ []) ds in let one = longer ls (looked_at_level p w ts ls d d.levels) in omega arith
+  looks-length ts ls (d ∷ ds) = let more = looks-length (with_tests_of p w ts d) (ls ++ looked_at_level p w ts ls d d.levels ∷ []) ds in
+      let one = longer ls (looked_at_level p w ts ls d d.levels) in omega arith
 
-  looks-stay : (ts : Tests) (ls : Looks) (ds : List PlainDefinition) (k : ℕ) → k < length ls → slice_get (looks_over p w ts ls ds) k ≡ slice_get ls k
+  looks-stay : (ts : Tests) (ls : Looks) (ds : List PlainDefinition) (k : ℕ) → k < length ls → slice_get (looks_over p w ts ls ds) k ≡
+      slice_get ls k
   unfolding looks_over
   looks-stay ts ls [] k h = refl
-  looks-stay ts ls (d ∷ ds) k h = looks-stay (with_tests_of p w ts d) (ls ++ looked_at_level p w ts ls d d.levels ∷ []) ds k (omega (arith, longer ls (looked_at_level p w ts ls d d.levels))) ∙ front-get ls (looked_at_level p w ts ls d d.levels ∷ []) k h
+  looks-stay ts ls (d ∷ ds) k h = looks-stay (with_tests_of p w ts d) (ls ++ looked_at_level p w ts ls d d.levels ∷ []) ds k
+      (omega (arith, longer ls (looked_at_level p w ts ls d d.levels))) ∙ front-get ls (looked_at_level p w ts ls d d.levels ∷ []) k h
 
-  looks-at : (ts : Tests) (ls : Looks) (ds : List PlainDefinition) (k j : ℕ) (d : PlainDefinition) → slice_get ds k ≡ Some d → j ≡ length ls + k
-      → slice_get (looks_over p w ts ls ds) j ≡ Some (looked_at_level p w (tests_over ts (take k ds)) (looks_over p w ts ls (take k ds)) d d.levels)
+  looks-at : (ts : Tests) (ls : Looks) (ds : List PlainDefinition) (k j : ℕ) (d : PlainDefinition) → slice_get ds k ≡ Some d → j ≡
+      length ls + k
+      → slice_get (looks_over p w ts ls ds) j ≡ Some (looked_at_level p w (tests_over ts (take k ds))
+      (looks_over p w ts ls (take k ds)) d d.levels)
   unfolding looks_over
   looks-at ts ls [] k j d e q = cc
   looks-at ts ls (c ∷ ds) zero j d e q =
       let same : c ≡ d = cc in
-      looks-stay (with_tests_of p w ts c) (ls ++ looked_at_level p w ts ls c c.levels ∷ []) ds j (omega (arith, longer ls (looked_at_level p w ts ls c c.levels)))
-      ∙ (end-get ls (looked_at_level p w ts ls c c.levels) j (omega arith) ∙ ap (λ (x : PlainDefinition). Some (looked_at_level p w ts ls x x.levels)) same)
-  looks-at ts ls (c ∷ ds) (suc k) j d e q = looks-at (with_tests_of p w ts c) (ls ++ looked_at_level p w ts ls c c.levels ∷ []) ds k j d e (omega (arith, longer ls (looked_at_level p w ts ls c c.levels)))
+      looks-stay (with_tests_of p w ts c) (ls ++ looked_at_level p w ts ls c c.levels ∷ []) ds j
+      (omega (arith, longer ls (looked_at_level p w ts ls c c.levels)))
+      ∙ (end-get ls (looked_at_level p w ts ls c c.levels) j (omega arith) ∙
+      ap (λ (x : PlainDefinition). Some (looked_at_level p w ts ls x x.levels)) same)
+  looks-at ts ls (c ∷ ds) (suc k) j d e q = looks-at (with_tests_of p w ts c) (ls ++ looked_at_level p w ts ls c c.levels ∷ []) ds k j d e
+      (omega (arith, longer ls (looked_at_level p w ts ls c c.levels)))
 
   -- ---- an atom of definition i, where the first n are read whole and definition n at level k
 
@@ -145,7 +158,8 @@ module _ (p : PlainProblem) (w : World) where
   ]
 
   looks-read-at : (n k i : ℕ) (d : PlainDefinition) → slice_get p.definitions i ≡ Some d → i ≤ n
-      → slice_get (looks_read p w n k) i ≡ Some (looked_at_level p w (tests_before p w i) (looks_before p w i) d (read_level n k i d.levels))
+      → slice_get (looks_read p w n k) i ≡ Some (looked_at_level p w (tests_before p w i) (looks_before p w i) d
+      (read_level n k i d.levels))
   unfolding looks_read
   looks-read-at n k i d e h = elim (less-or-same i n h) [
     | inl less ↦
@@ -155,8 +169,10 @@ module _ (p : PlainProblem) (w : World) where
         let count = looks-length [] [] (take n p.definitions) in
         front-get (looks_before p w n) (own_look p w n k (slice_get p.definitions n)) i (omega arith)
         ∙ (looks-at [] [] (take n p.definitions) i i d there (omega arith)
-        ∙ (ap (λ (ds : List PlainDefinition). Some (looked_at_level p w (tests_over [] ds) (looks_over p w [] [] ds) d d.levels)) (take-twice i n p.definitions h)
-        ∙ sym (ap (λ (b : Bool). Some (looked_at_level p w (tests_before p w i) (looks_before p w i) d (cond b k d.levels))) (ne_eqb i n (omega arith)))))
+        ∙ (ap (λ (ds : List PlainDefinition). Some (looked_at_level p w (tests_over [] ds) (looks_over p w [] [] ds) d d.levels))
+        (take-twice i n p.definitions h)
+        ∙ sym (ap (λ (b : Bool). Some (looked_at_level p w (tests_before p w i) (looks_before p w i) d (cond b k d.levels)))
+        (ne_eqb i n (omega arith)))))
     | inr same ↦
         let within : i < length p.definitions = slice_get_within p.definitions i d e in
         let count = looks-length [] [] (take n p.definitions) in
@@ -165,7 +181,8 @@ module _ (p : PlainProblem) (w : World) where
         ap (λ (o : Option PlainDefinition). slice_get (looks_before p w n ++ own_look p w n k o) i) own
         ∙ (end-get (looks_before p w n) (looked_at_level p w (tests_before p w n) (looks_before p w n) d k) i (omega arith)
         ∙ (ap (λ (m : ℕ). Some (looked_at_level p w (tests_before p w m) (looks_before p w m) d k)) (sym same)
-        ∙ sym (ap (λ (b : Bool). Some (looked_at_level p w (tests_before p w i) (looks_before p w i) d (cond b k d.levels))) (eq-eqb i n same))))
+        ∙ sym (ap (λ (b : Bool). Some (looked_at_level p w (tests_before p w i) (looks_before p w i) d (cond b k d.levels)))
+        (eq-eqb i n same))))
   ]
 
   -- where its levels are used up, it is false and nothing is looked at
@@ -173,30 +190,38 @@ module _ (p : PlainProblem) (w : World) where
     pub truth : (situation_read p w n k).table i vs ≡ false
     pub looked : looked_read p w n k i vs ≡ []
 
-  pub read-closed : (n k i : ℕ) (d : PlainDefinition) (vs : List Value) → slice_get p.definitions i ≡ Some d → i ≤ n → read_level n k i d.levels ≡ 0 → Closed n k i vs
+  pub read-closed : (n k i : ℕ) (d : PlainDefinition) (vs : List Value) → slice_get p.definitions i ≡ Some d → i ≤ n →
+      read_level n k i d.levels ≡ 0 → Closed n k i vs
   unfolding true_at_level looked_at_level
   read-closed n k i d vs e h z = record {
-    truth = ap (λ (o : Option (List Value → Bool)). asked o vs) (tests-read-at n k i d e h) ∙ ap (λ (m : ℕ). true_at_level p w (tests_before p w i) d m vs) z;
-    looked = ap (λ (o : Option (List Value → List Operation)). looks_asked o vs) (looks-read-at n k i d e h) ∙ ap (λ (m : ℕ). looked_at_level p w (tests_before p w i) (looks_before p w i) d m vs) z;
+    truth = ap (λ (o : Option (List Value → Bool)). asked o vs) (tests-read-at n k i d e h) ∙
+        ap (λ (m : ℕ). true_at_level p w (tests_before p w i) d m vs) z;
+    looked = ap (λ (o : Option (List Value → List Operation)). looks_asked o vs) (looks-read-at n k i d e h) ∙
+        ap (λ (m : ℕ). looked_at_level p w (tests_before p w i) (looks_before p w i) d m vs) z;
   }
 
   -- and else it is its body of the values, read one level lower
   pub record Opened (n k i j : ℕ) (d : PlainDefinition) (vs : List Value) : Type 0 where
     pub truth : (situation_read p w n k).table i vs ≡ state_true (situation_read p w i j) (bind d.params vs no_values) d.body
-    pub looked : looked_read p w n k i vs ≡ looked_in_state (looked_read p w i j) (situation_read p w i j) (bind d.params vs no_values) d.body
+    pub looked : looked_read p w n k i vs ≡ looked_in_state (looked_read p w i j) (situation_read p w i j)
+        (bind d.params vs no_values) d.body
 
-  pub read-opened : (n k i j : ℕ) (d : PlainDefinition) (vs : List Value) → slice_get p.definitions i ≡ Some d → i ≤ n → read_level n k i d.levels ≡ suc j → Opened n k i j d vs
+  pub read-opened : (n k i j : ℕ) (d : PlainDefinition) (vs : List Value) → slice_get p.definitions i ≡ Some d → i ≤ n →
+      read_level n k i d.levels ≡ suc j → Opened n k i j d vs
   unfolding true_at_level looked_at_level tests_read looks_read
   read-opened n k i j d vs e h z =
-      let tests : tests_before p w i ++ true_at_level p w (tests_before p w i) d j ∷ [] ≡ tests_read p w i j = ap (λ (o : Option PlainDefinition). tests_before p w i ++ own_test p w i j o) (sym e) in
-      let looks : looks_before p w i ++ looked_at_level p w (tests_before p w i) (looks_before p w i) d j ∷ [] ≡ looks_read p w i j = ap (λ (o : Option PlainDefinition). looks_before p w i ++ own_look p w i j o) (sym e) in
+      let tests : tests_before p w i ++ true_at_level p w (tests_before p w i) d j ∷ [] ≡ tests_read p w i j =
+      ap (λ (o : Option PlainDefinition). tests_before p w i ++ own_test p w i j o) (sym e) in
+      let looks : looks_before p w i ++ looked_at_level p w (tests_before p w i) (looks_before p w i) d j ∷ [] ≡ looks_read p w i j =
+      ap (λ (o : Option PlainDefinition). looks_before p w i ++ own_look p w i j o) (sym e) in
       record {
         truth = ap (λ (o : Option (List Value → Bool)). asked o vs) (tests-read-at n k i d e h)
             ∙ (ap (λ (m : ℕ). true_at_level p w (tests_before p w i) d m vs) z
             ∙ ap (λ (ts : Tests). state_true (situation_under p w ts) (bind d.params vs no_values) d.body) tests);
         looked = ap (λ (o : Option (List Value → List Operation)). looks_asked o vs) (looks-read-at n k i d e h)
             ∙ (ap (λ (m : ℕ). looked_at_level p w (tests_before p w i) (looks_before p w i) d m vs) z
-            ∙ ap₂ (λ (ts : Tests) (ls : Looks). looked_in_state (looked_table ls) (situation_under p w ts) (bind d.params vs no_values) d.body) tests looks);
+            ∙ ap₂ (λ (ts : Tests) (ls : Looks). looked_in_state (looked_table ls) (situation_under p w ts)
+            (bind d.params vs no_values) d.body) tests looks);
       }
 
   -- an atom of definition i means and looks at the same wherever it is read at one level
@@ -204,7 +229,8 @@ module _ (p : PlainProblem) (w : World) where
     pub truth : (situation_read p w n k).table i vs ≡ (situation_read p w i l).table i vs
     pub looked : looked_read p w n k i vs ≡ looked_read p w i l i vs
 
-  pub read-at : (n k i l : ℕ) (d : PlainDefinition) (vs : List Value) → slice_get p.definitions i ≡ Some d → i ≤ n → read_level n k i d.levels ≡ l → AtLevel n k i l vs
+  pub read-at : (n k i l : ℕ) (d : PlainDefinition) (vs : List Value) → slice_get p.definitions i ≡ Some d → i ≤ n →
+      read_level n k i d.levels ≡ l → AtLevel n k i l vs
   read-at n k i l d vs e h z =
       let own : read_level n k i d.levels ≡ read_level i l i d.levels = z ∙ sym (ap (λ (b : Bool). cond b l d.levels) (eq-eqb i i refl)) in
       record {

@@ -1,5 +1,6 @@
 -- Variables that are given values in a frame.
-use Rattle.std.proofs.Common.{◌≡◌, ◌<◌, ℕ, zero, suc, List, [], ◌∷◌, ◌++◌, take, drop, length, get_or, cond, ◌==◌, Option, Some, refl, sym, ap, ◌∙◌, drop-cons, arith}
+use Rattle.std.proofs.Common.{◌≡◌, ◌<◌, ℕ, zero, suc, List, [], ◌∷◌, ◌++◌, take, drop, length, get_or, cond, ◌==◌, Option, Some, refl, sym}
+use Rattle.std.proofs.Common.{ap, ◌∙◌, drop-cons, arith}
 use mathlib.Core.Path.{fun_ext}
 use Rattle.std.specs.Prelude.{slice_set}
 use Rattle.std.proofs.Math.Seq.{take-append_seam}
@@ -24,17 +25,20 @@ drop-past-end [] = refl
 drop-past-end (x ∷ xs) = drop-past-end xs
 
 -- at first no variable has its value
-pub put-begun : (vars : List Var) (values : List Value) (frame : List (Option Value)) → assignment_in frame ≡ bind (drop (length vars) vars) (drop (length vars) values) (assignment_in frame)
+pub put-begun : (vars : List Var) (values : List Value) (frame : List (Option Value)) → assignment_in frame ≡
+    bind (drop (length vars) vars) (drop (length vars) values) (assignment_in frame)
 put-begun vars values frame = ap (λ (ss : List Var). bind ss (drop (length vars) values) (assignment_in frame)) (sym (drop-past-end vars))
 
 -- one more
-pub put-one : (vars : List Var) (values : List Value) (i j : ℕ) (s : Var) (v : Value) (frame : List (Option Value)) (e : Assignment) → j ≡ suc i → i < length vars → i < length values → (get_or vars i s).slot < length frame
+pub put-one : (vars : List Var) (values : List Value) (i j : ℕ) (s : Var) (v : Value) (frame : List (Option Value)) (e : Assignment) → j ≡
+    suc i → i < length vars → i < length values → (get_or vars i s).slot < length frame
     → assignment_in frame ≡ bind (drop j vars) (drop j values) e
     → assignment_in (slice_set frame (get_or vars i s).slot (Some (get_or values i v))) ≡ bind (drop i vars) (drop i values) e
 put-one vars values i j s v frame e q h k room so =
     fun_ext (λ (x : ℕ).
     assignment-set frame (get_or vars i s).slot (Some (get_or values i v)) x room
-    ∙ (ap (λ (f : Assignment). cond (x == (get_or vars i s).slot) (Some (get_or values i v)) (f x)) (so ∙ ap (λ (m : ℕ). bind (drop m vars) (drop m values) e) q)))
+    ∙ (ap (λ (f : Assignment). cond (x == (get_or vars i s).slot) (Some (get_or values i v)) (f x))
+    (so ∙ ap (λ (m : ℕ). bind (drop m vars) (drop m values) e) q)))
     ∙ sym (ap (λ (ss : List Var). bind ss (drop i values) e) (drop-cons vars i s h)
     ∙ ap (λ (vs : List Value). bind (get_or vars i s ∷ drop (suc i) vars) vs e) (drop-cons values i v k))
 

@@ -1,5 +1,6 @@
 -- The tuples of a bound one after another: the next one after those that are done is the first of the rest.
-use Rattle.std.proofs.Common.{◌≡◌, ◌↔◌, ℕ, List, [], ◌∷◌, ◌++◌, length, Bool, true≢false, Option, Some, None, Less, Equal, Greater, refl, sym, ap, ◌∙◌, subst, inl, inr}
+use Rattle.std.proofs.Common.{◌≡◌, ◌↔◌, ℕ, List, [], ◌∷◌, ◌++◌, length, Bool, true≢false, Option, Some, None, Less, Equal, Greater, refl}
+use Rattle.std.proofs.Common.{sym, ap, ◌∙◌, subst, inl, inr}
 use Rattle.std.specs.Ordering.{is_gt, ordering_reverse}
 use Rattle.std.specs.Cmp.{tied_itself}
 use Rattle.tl_eval.specs.LawsTuples.{IsLast, TuplesAreTheChain, NextIsFirstOfTheRest}
@@ -33,12 +34,14 @@ pub record Remains (k : ℕ) (test : List Value → Bool) (after : Option (List 
 
 module _ (k : ℕ) (test : List Value → Bool) where
   -- where there is no next tuple, nothing remains
-  pub remains-none : (after : Option (List Value)) (rest : List (List Value)) → Remains k test after rest → IsNext k test after None → rest ≡ []
+  pub remains-none : (after : Option (List Value)) (rest : List (List Value)) → Remains k test after rest → IsNext k test after None →
+      rest ≡ []
   remains-none after [] r n = refl
   remains-none after (x ∷ rest) r n = absurd (n x ((r.all x).0 (inl refl)))
 
   -- what remains after the first
-  remains-tail : (after : Option (List Value)) (x : List Value) (more : List (List Value)) → Remains k test after (x ∷ more) → Remains k test (Some x) more
+  remains-tail : (after : Option (List Value)) (x : List Value) (more : List (List Value)) → Remains k test after (x ∷ more) →
+      Remains k test (Some x) more
   remains-tail after x more r = record {
     rises = r.rises.1;
     all = λ t. (
@@ -51,7 +54,8 @@ module _ (k : ℕ) (test : List Value → Bool) where
   }
 
   -- a next tuple is the first of what remains
-  first-is : (after : Option (List Value)) (x : List Value) (more : List (List Value)) (t : List Value) → Remains k test after (x ∷ more) → IsNext k test after (Some t) → x ≡ t
+  first-is : (after : Option (List Value)) (x : List Value) (more : List (List Value)) (t : List Value) → Remains k test after (x ∷ more) →
+      IsNext k test after (Some t) → x ≡ t
   first-is after x more t r n = elim ((r.all t).1 n.0) [
     | inl e ↦ e
     | inr m ↦
@@ -60,14 +64,16 @@ module _ (k : ℕ) (test : List Value → Bool) where
         absurd (true≢false (sym (ap is_gt back) ∙ n.1 x ((r.all x).0 (inl refl))))
   ]
 
-  pub remains-some : (after : Option (List Value)) (rest : List (List Value)) (t : List Value) → Remains k test after rest → IsNext k test after (Some t) → (more : List (List Value)) × ((rest ≡ t ∷ more) × Remains k test (Some t) more)
+  pub remains-some : (after : Option (List Value)) (rest : List (List Value)) (t : List Value) → Remains k test after rest →
+      IsNext k test after (Some t) → (more : List (List Value)) × ((rest ≡ t ∷ more) × Remains k test (Some t) more)
   remains-some after [] t r n = absurd ((r.all t).1 n.0)
   remains-some after (x ∷ more) t r n =
       let e : x ≡ t = first-is after x more t r n in
       (more, (ap (λ y. y ∷ more) e, subst (λ y. Remains k test (Some y) more) e (remains-tail after x more r)))
 
   -- a chain from the same tuple on is what remains
-  pub chain-is : (after : Option (List Value)) (ts rest : List (List Value)) → IsChain k test after ts → Remains k test after rest → ts ≡ rest
+  pub chain-is : (after : Option (List Value)) (ts rest : List (List Value)) → IsChain k test after ts → Remains k test after rest → ts ≡
+      rest
   chain-is after [] rest c r = sym (remains-none after rest r c)
   chain-is after (t ∷ ts) rest c r =
       let s = remains-some after rest t r c.0 in
@@ -78,14 +84,16 @@ module _ (k : ℕ) (test : List Value → Bool) where
 rises-across : (xs ys : List (List Value)) → Rises row_cmp (xs ++ ys) → (x y : List Value) → Among x xs → Among y ys → row_cmp x y ≡ Less
 rises-across [] ys r x y m n = absurd m
 rises-across (z ∷ xs) ys r x y m n = elim m [
-  | inl e ↦ subst (λ w. row_cmp w y ≡ Less) e ((Each-Among (λ u. row_cmp z u ≡ Less) (xs ++ ys)).0 r.0 y ((One-append (λ u. u ≡ y) xs ys).1 (inr n)))
+  | inl e ↦ subst (λ w. row_cmp w y ≡ Less) e ((Each-Among (λ u. row_cmp z u ≡ Less) (xs ++ ys)).0 r.0 y
+      ((One-append (λ u. u ≡ y) xs ys).1 (inr n)))
   | inr k ↦ rises-across xs ys r.1 x y k n
 ]
 
 rises-left : (xs ys : List (List Value)) → Rises row_cmp (xs ++ ys) → Rises row_cmp xs
 rises-left [] ys r = tt
 rises-left (x ∷ xs) ys r = (
-  (Each-Among (λ u. row_cmp x u ≡ Less) xs).1 (λ u m. (Each-Among (λ w. row_cmp x w ≡ Less) (xs ++ ys)).0 r.0 u ((One-append (λ w. w ≡ u) xs ys).1 (inl m))),
+  (Each-Among (λ u. row_cmp x u ≡ Less) xs).1 (λ u m. (Each-Among (λ w. row_cmp x w ≡ Less) (xs ++ ys)).0 r.0 u
+      ((One-append (λ w. w ≡ u) xs ys).1 (inl m))),
   rises-left xs ys r.1,
 )
 
@@ -94,12 +102,14 @@ rises-right [] ys r = r
 rises-right (x ∷ xs) ys r = rises-right xs ys r.1
 
 -- what comes after the last of some leading tuples is the other tuples
-rest-remains : (k : ℕ) (test : List Value → Bool) (done rest : List (List Value)) (after : Option (List Value)) → Remains k test None (done ++ rest) → IsLast done after → Remains k test after rest
+rest-remains : (k : ℕ) (test : List Value → Bool) (done rest : List (List Value)) (after : Option (List Value)) →
+    Remains k test None (done ++ rest) → IsLast done after → Remains k test after rest
 rest-remains k test done rest None r l = subst (λ xs. Remains k test None (xs ++ rest)) l r
 rest-remains k test done rest (Some a) r l = record {
   rises = rises-right done rest r.rises;
   all = λ t. (
-    λ m. let passed = (r.all t).0 ((One-append (λ y. y ≡ t) done rest).1 (inr m)) in (passed.0, passed.1, rises-across done rest r.rises a t last m),
+    λ m. let passed = (r.all t).0 ((One-append (λ y. y ≡ t) done rest).1 (inr m)) in
+        (passed.0, passed.1, rises-across done rest r.rises a t last m),
     λ p. elim ((One-append (λ y. y ≡ t) done rest).0 ((r.all t).1 (p.0, p.1, tt))) [ inl m ↦ absurd (not-done t m p.2) | inr m ↦ m ],
   );
 }
@@ -130,8 +140,10 @@ module _ (s : Situation) (e : Assignment) (ss : List Var) (b : Bound) (d : Diffe
     all = λ t. let h = all-tuples s e ss b d o t in (λ m. let l = h.0 m in (l.0, l.1, tt), λ l. h.1 (l.0, l.1));
   }
 
-  split-remains : (done rest : List (List Value)) (after : Option (List Value)) → tuples s e ss b ≡ done ++ rest → IsLast done after → Remains (length ss) passes after rest
-  split-remains done rest after q l = rest-remains (length ss) passes done rest after (subst (Remains (length ss) passes None) q tuples-remain) l
+  split-remains : (done rest : List (List Value)) (after : Option (List Value)) → tuples s e ss b ≡ done ++ rest → IsLast done after →
+      Remains (length ss) passes after rest
+  split-remains done rest after q l = rest-remains (length ss) passes done rest after
+      (subst (Remains (length ss) passes None) q tuples-remain) l
 
   -- where there is no next tuple after those that are done, there is no rest
   pub no-more : (done rest : List (List Value)) (after : Option (List Value)) → tuples s e ss b ≡ done ++ rest → IsLast done after
@@ -139,9 +151,11 @@ module _ (s : Situation) (e : Assignment) (ss : List Var) (b : Bound) (d : Diffe
   no-more done rest after q l n = remains-none (length ss) passes after rest (split-remains done rest after q l) n
 
   -- the next tuple after those that are done is the first of the rest
-  pub one-more : (done rest : List (List Value)) (after : Option (List Value)) (t : List Value) → tuples s e ss b ≡ done ++ rest → IsLast done after
+  pub one-more : (done rest : List (List Value)) (after : Option (List Value)) (t : List Value) → tuples s e ss b ≡ done ++ rest →
+      IsLast done after
       → IsNext (length ss) (λ t. bound_true s (bind ss t e) b) after (Some t) → (more : List (List Value)) × (rest ≡ t ∷ more)
-  one-more done rest after t q l n = let m = remains-some (length ss) passes after rest t (split-remains done rest after q l) n in (m.0, m.1.0)
+  one-more done rest after t q l n = let m = remains-some (length ss) passes after rest t (split-remains done rest after q l) n in
+      (m.0, m.1.0)
 
   -- the tuples of the bound are a chain of next tuples, and the only one
   pub tuples-chain : IsChain (length ss) (λ t. bound_true s (bind ss t e) b) None (tuples s e ss b)

@@ -23,7 +23,8 @@ ReadsWhatStands s b p r = (ss : List Var) (e : Assignment) → IsPatternOf ss e 
 
 -- the new reading has come to the tuple after that of the old
 abbrev pub ComesToNext : Reading → Reading → Type 0
-ComesToNext old new = (s : Situation) (b : Bound) (ss : List Var) (e : Assignment) → ReadsBound s ss e b old → IsNextTuple s ss e b old.tuple new.tuple
+ComesToNext old new = (s : Situation) (b : Bound) (ss : List Var) (e : Assignment) → ReadsBound s ss e b old →
+    IsNextTuple s ss e b old.tuple new.tuple
 
 -- the new reading is of what the old one is of
 abbrev pub ReadsSameBound : Reading → Reading → Type 0

@@ -69,4 +69,5 @@ pub record AreKept (ss : List Var) (frame values : List (Option Value)) : Type 0
 -- where the values were kept of a frame with which the old one agrees elsewhere, the new frame is
 -- that one
 abbrev pub GivesBack : List Var → List (Option Value) → List (Option Value) → List (Option Value) → Type 0
-GivesBack ss values old new = (frame : List (Option Value)) → AreKept ss frame values → AgreeElsewhere ss (assignment_in old) (assignment_in frame) → new ≡ frame
+GivesBack ss values old new = (frame : List (Option Value)) → AreKept ss frame values →
+    AgreeElsewhere ss (assignment_in old) (assignment_in frame) → new ≡ frame

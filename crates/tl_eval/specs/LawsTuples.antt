@@ -22,10 +22,12 @@ IsFirstTuple rest (Some t) = (more : List (List Value)) × (rest ≡ t ∷ more)
 -- the tuples of a bound in which the variables stand are a chain of next tuples, and the only one:
 -- from the first on, each got from the one before, and with an end
 abbrev pub TuplesAreTheChain : Type 0
-TuplesAreTheChain = (s : Situation) (e : Assignment) (ss : List Var) (b : Bound) → DifferInSlot ss → OccurIn ss b → (ts : List (List Value)) → IsChain (length ss) (λ t. bound_true s (bind ss t e) b) None ts ↔ (ts ≡ tuples s e ss b)
+TuplesAreTheChain = (s : Situation) (e : Assignment) (ss : List Var) (b : Bound) → DifferInSlot ss → OccurIn ss b →
+    (ts : List (List Value)) → IsChain (length ss) (λ t. bound_true s (bind ss t e) b) None ts ↔ (ts ≡ tuples s e ss b)
 
 -- the next tuple after those that are done is the first of the rest, and there is none where there
 -- is no rest
 abbrev pub NextIsFirstOfTheRest : Type 0
-NextIsFirstOfTheRest = (s : Situation) (e : Assignment) (ss : List Var) (b : Bound) → DifferInSlot ss → OccurIn ss b → (done rest : List (List Value)) (after next : Option (List Value)) → tuples s e ss b ≡ done ++ rest → IsLast done after
+NextIsFirstOfTheRest = (s : Situation) (e : Assignment) (ss : List Var) (b : Bound) → DifferInSlot ss → OccurIn ss b →
+    (done rest : List (List Value)) (after next : Option (List Value)) → tuples s e ss b ≡ done ++ rest → IsLast done after
     → IsNext (length ss) (λ t. bound_true s (bind ss t e) b) after next → IsFirstTuple rest next

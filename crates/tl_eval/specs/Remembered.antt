@@ -21,7 +21,8 @@ pub record Remembered : Type 0 where
 abbrev pub coded_remembered : Coded Remembered
 coded_remembered =
     code_by (ℕ × (ℕ × (List Value × Bool))) (coded× coded_ℕ (coded× coded_ℕ (coded× (coded_list coded_value) coded_bool)))
-    (λ r. (r.number, (r.level, (r.values, r.truth)))) (λ p. record { number = p.0; level = p.1.0; values = p.1.1.0; truth = p.1.1.1 }) (λ r. refl)
+    (λ r. (r.number, (r.level, (r.values, r.truth)))) (λ p. record { number = p.0; level = p.1.0; values = p.1.1.0; truth = p.1.1.1 })
+    (λ r. refl)
 
 -- the definition at the level has this truth of the values
 abbrev pub remembered : ℕ → ℕ → List Value → Bool → Remembered
@@ -34,7 +35,8 @@ AreFrom r others rs = Each (λ x. (x ≡ r) ⊎ Among x others) rs
 -- it is the truth of the definition in a world of the problem, and no operation that is looked at
 -- is past range
 abbrev pub IsRight : PlainProblem → World → Remembered → Type 0
-IsRight p w r = Evaluates ((situation_read p w r.number r.level).table r.number r.values) (looked_read p w r.number r.level r.number r.values) (Ok r.truth)
+IsRight p w r = Evaluates ((situation_read p w r.number r.level).table r.number r.values)
+    (looked_read p w r.number r.level r.number r.values) (Ok r.truth)
 
 -- each that is remembered is the truth in this world
 abbrev pub AreTruths : PlainProblem → World → List Remembered → Type 0

@@ -21,7 +21,8 @@ use Rattle.tl_world.specs.declared.task.Task.{Task}
 -- the truth of the formula under the assignment, where it is read with the first n definitions and
 -- definition n at level k; or a note of an operation that is looked at
 abbrev pub IsTruth : PlainProblem → World → ℕ → ℕ → Assignment → FormulaTree → Result Bool RangeNote → Type 0
-IsTruth p w n k e f result = Evaluates (state_true (situation_read p w n k) e f) (looked_in_state (looked_read p w n k) (situation_read p w n k) e f) result
+IsTruth p w n k e f result = Evaluates (state_true (situation_read p w n k) e f)
+    (looked_in_state (looked_read p w n k) (situation_read p w n k) e f) result
 
 -- the formula fits, below some quantifiers, and names definition n or those before it
 pub record FitsAt (g : Signature) (n : ℕ) (f : FormulaTree) : Type 0 where

@@ -70,7 +70,8 @@ looked_on_sides w frame cmp s t = followed_if (leaves_open cmp (value_under w fr
 
 -- it says whether the two terms stand in the comparison, or is a note of them
 abbrev pub IsComparison : World → List (Option Value) → Cmp → TermTree → TermTree → Result Bool RangeNote → Type 0
-IsComparison w frame cmp s t result = Evaluates (compared cmp (value_under w frame s) (value_under w frame t)) (looked_on_sides w frame cmp s t) result
+IsComparison w frame cmp s t result = Evaluates (compared cmp (value_under w frame s) (value_under w frame t))
+    (looked_on_sides w frame cmp s t) result
 
 -- so it is of two terms that are no trees yet
 abbrev pub IsTermComparison : World → List (Option Value) → Cmp → Term → Term → Result Bool RangeNote → Type 0

@@ -51,12 +51,14 @@ AreTruthsHere here rs = AreTruths (problem_here here) here.world.now rs
 
 -- the formula's truth under the frame; or a note
 abbrev pub IsTruthHere : Here → List (Option Value) → FormulaTree → Result Bool RangeNote → Type 0
-IsTruthHere here frames f result = IsTruth (problem_here here) here.world.now here.reading.number here.reading.level (current_assignment frames) f result
+IsTruthHere here frames f result = IsTruth (problem_here here) here.world.now here.reading.number here.reading.level
+    (current_assignment frames) f result
 
 -- the truth of a definition of the values, where its atom is read at the reading; or a note
 abbrev pub IsDefinitionTruth : Here → Reading → ℕ → List Value → Result Bool RangeNote → Type 0
 IsDefinitionTruth here r n values result =
-    Evaluates ((situation_read (problem_here here) here.world.now r.number r.level).table n values) (looked_read (problem_here here) here.world.now r.number r.level n values) result
+    Evaluates ((situation_read (problem_here here) here.world.now r.number r.level).table n values)
+    (looked_read (problem_here here) here.world.now r.number r.level n values) result
 
 -- the formula fits where it is read
 abbrev pub FitsHere : Here → FormulaTree → Type 0

@@ -20,7 +20,8 @@ use Rattle.tl_explain.specs.declared.explanation.Explanation.{Explanation}
 use Rattle.tl_explain.specs.Explanations.{formula_in, AwaitsFirst}
 
 -- how many parameters each operator has, by its plain form
-counts : (os : List Operator) → map (λ (o : PlainOperator). length o.params) (map plain_operator os) ≡ map (λ (o : Operator). length o.params) os
+counts : (os : List Operator) → map (λ (o : PlainOperator). length o.params) (map plain_operator os) ≡
+    map (λ (o : Operator). length o.params) os
 counts [] = refl
 counts (o ∷ os) = ap (λ (ns : List ℕ). length o.params ∷ ns) (counts os)
 
@@ -30,7 +31,8 @@ unfolding plain_problem
 of-operator p a named = subst (λ (ns : List ℕ). Takes ns a.op (length a.args)) (sym (counts p.domain.operators)) named.takes
 
 -- the control formula comes in to the first world
-pub awaits-first : (task : Task) (x : Explanation) → x.world ≡ (plain_problem task.problem).first → Denotes x.nodes x.label (tree_of_formula task.problem.domain.control) → x.text ≡ [] → AwaitsFirst task.problem x
+pub awaits-first : (task : Task) (x : Explanation) → x.world ≡ (plain_problem task.problem).first →
+    Denotes x.nodes x.label (tree_of_formula task.problem.domain.control) → x.text ≡ [] → AwaitsFirst task.problem x
 unfolding plain_problem
 awaits-first task x world label text =
     let keeps = task.problem.domain_keeps in
@@ -39,7 +41,8 @@ awaits-first task x world label text =
     record {
       fit = record {
         inside = slice_get_within (trees x.nodes) x.label control label;
-        sentence = subst (IsSentence (signature_of task.problem.domain)) is (record { fits = keeps.control_fits; closed = keeps.control_closed });
+        sentence = subst (IsSentence (signature_of task.problem.domain)) is
+            (record { fits = keeps.control_fits; closed = keeps.control_closed });
         named = subst (IsNamed (length task.problem.names)) is keeps.control_named;
         world_named = subst (WorldIsNamed (length task.problem.names)) (task.first_is ∙ sym world) task.first_named;
       };

@@ -16,16 +16,22 @@ use Rattle.tl_explain.proofs.Reaching.{Reached, action-past, first-past, progres
 
 module _ (p : Problem) (plan : List Action) where
   -- progressing the control formula is the cause
-  pub first-fault : (w : World) (f : FormulaTree) (x : ExplainFault) → w ≡ (plain_problem p).first → f ≡ (plain_problem p).control → IsArrivalFault p 0 w f x → IsExplainCause (plain_problem p) plan x
+  pub first-fault : (w : World) (f : FormulaTree) (x : ExplainFault) → w ≡ (plain_problem p).first → f ≡ (plain_problem p).control →
+      IsArrivalFault p 0 w f x → IsExplainCause (plain_problem p) plan x
   first-fault w f (fault.Range after note) a b h =
-      let told = subst (λ g. Tells (looked_by_progressing (plain_problem p) (plain_problem p).first g) note) b (subst (λ v. Tells (looked_by_progressing (plain_problem p) v f) note) a h.1) in
+      let told = subst (λ g. Tells (looked_by_progressing (plain_problem p) (plain_problem p).first g) note) b
+      (subst (λ v. Tells (looked_by_progressing (plain_problem p) v f) note) a h.1) in
       subst (λ k. IsPastInExplanation (plain_problem p) plan k note) (sym h.0) (inr (first-past (plain_problem p) plan note told))
   first-fault w f fault.NoMemory a b h = tt
 
   -- following an action is the cause
-  pub follow-fault : (k : ℕ) (old : Explanation) (a : Action) (x : ExplainFault) → Reached (plain_problem p) plan k old.world (formula_in old) → k < length plan → a ≡ get_or plan k a → IsFollowFault p k a old x → IsExplainCause (plain_problem p) plan x
+  pub follow-fault : (k : ℕ) (old : Explanation) (a : Action) (x : ExplainFault) →
+      Reached (plain_problem p) plan k old.world (formula_in old) → k < length plan → a ≡ get_or plan k a → IsFollowFault p k a old x →
+      IsExplainCause (plain_problem p) plan x
   follow-fault k old a (fault.Range after note) r l e (inl h) =
-      subst (λ n. IsPastInExplanation (plain_problem p) plan n note) (sym h.0) (inl (action-past (plain_problem p) plan k old.world (formula_in old) r a l e note h.1))
+      subst (λ n. IsPastInExplanation (plain_problem p) plan n note) (sym h.0)
+      (inl (action-past (plain_problem p) plan k old.world (formula_in old) r a l e note h.1))
   follow-fault k old a (fault.Range after note) r l e (inr h) =
-      subst (λ n. IsPastInExplanation (plain_problem p) plan n note) (sym h.2.0) (inr (progression-past (plain_problem p) plan k old.world (formula_in old) r a l e h.0 note h.1 h.2.1))
+      subst (λ n. IsPastInExplanation (plain_problem p) plan n note) (sym h.2.0)
+      (inr (progression-past (plain_problem p) plan k old.world (formula_in old) r a l e h.0 note h.1 h.2.1))
   follow-fault k old a fault.NoMemory r l e h = tt

@@ -1,5 +1,6 @@
 -- The lines that are still to come.
-use Rattle.std.proofs.Common.{◌≡◌, ◌≤◌, ◌<◌, ◌+◌, ℕ, zero, suc, List, [], ◌∷◌, ◌++◌, drop, length, get_or, Bool, true, false, Option, Some, None, refl, sym, ap, ◌∙◌, subst, append_assoc, arith}
+use Rattle.std.proofs.Common.{◌≡◌, ◌≤◌, ◌<◌, ◌+◌, ℕ, zero, suc, List, [], ◌∷◌, ◌++◌, drop, length, get_or, Bool, true, false, Option, Some}
+use Rattle.std.proofs.Common.{None, refl, sym, ap, ◌∙◌, subst, append_assoc, arith}
 use Rattle.std.specs.Prelude.{Ok}
 use Rattle.tl_syntax.specs.declared.action.Action.{Action}
 use Rattle.tl_syntax.specs.declared.problem.Problem.{Problem}
@@ -12,10 +13,12 @@ use Rattle.tl_explain.specs.Explanations.{ComesOf, FollowsAction, Stops}
 use Rattle.tl_explain.specs.Explain.{action_line, by_step, end_line, explain_text, lines_after, progressed_in, state_line, stopped_line}
 
 -- what comes of an action, by whether it has a step
-pub followed : (p : Problem) (k : ℕ) (a : Action) (old new : Explanation) (b : Bool) → b ≡ true → ComesOf p k a old new (Ok b) → FollowsAction p k a old new
+pub followed : (p : Problem) (k : ℕ) (a : Action) (old new : Explanation) (b : Bool) → b ≡ true → ComesOf p k a old new (Ok b) →
+    FollowsAction p k a old new
 followed p k a old new b e h = subst (λ (x : Bool). ComesOf p k a old new (Ok x)) e h
 
-pub stopped : (p : Problem) (k : ℕ) (a : Action) (old new : Explanation) (b : Bool) → b ≡ false → ComesOf p k a old new (Ok b) → Stops p a old new
+pub stopped : (p : Problem) (k : ℕ) (a : Action) (old new : Explanation) (b : Bool) → b ≡ false → ComesOf p k a old new (Ok b) →
+    Stops p a old new
 stopped p k a old new b e h = subst (λ (x : Bool). ComesOf p k a old new (Ok x)) e h
 
 -- the actions from a position on
@@ -32,11 +35,14 @@ none-left (a ∷ plan) (suc k) h = none-left plan k (omega arith)
 
 module _ (p : Problem) where
   after-action : (k : ℕ) (w : World) (f : FormulaTree) (a : Action) (plan : List Action) (o : Option World) → step (plain_problem p) w a ≡ o
-      → lines_after p k w f (a ∷ plan) ≡ by_step (stopped_line (k + 1)) (λ v. action_line p a ++ (state_line p (k + 1) (progressed_in p v f) ++ lines_after p (k + 1) v (progressed_in p v f) plan)) o
+      → lines_after p k w f (a ∷ plan) ≡ by_step (stopped_line (k + 1))
+      (λ v. action_line p a ++ (state_line p (k + 1) (progressed_in p v f) ++ lines_after p (k + 1) v (progressed_in p v f) plan)) o
   unfolding lines_after
-  after-action k w f a plan o e = ap (by_step (stopped_line (k + 1)) (λ v. action_line p a ++ (state_line p (k + 1) (progressed_in p v f) ++ lines_after p (k + 1) v (progressed_in p v f) plan))) e
+  after-action k w f a plan o e = ap (by_step (stopped_line (k + 1)) (λ v. action_line p a ++
+      (state_line p (k + 1) (progressed_in p v f) ++ lines_after p (k + 1) v (progressed_in p v f) plan))) e
 
-  module _ (plan : List Action) (k : ℕ) (w : World) (f : FormulaTree) (old all : List ℕ) (so_far : old ++ lines_after p k w f (drop k plan) ≡ all) where
+  module _ (plan : List Action) (k : ℕ) (w : World) (f : FormulaTree) (old all : List ℕ)
+      (so_far : old ++ lines_after p k w f (drop k plan) ≡ all) where
     -- the lines where all actions are done with
     pub all-end : (new : List ℕ) → length plan ≤ k → new ≡ old ++ end_line → new ≡ all
     unfolding lines_after
@@ -44,14 +50,16 @@ module _ (p : Problem) where
 
     module _ (a : Action) (l : k < length plan) (e : a ≡ get_or plan k a) where
       -- the lines where the next action has no step
-      pub all-stop : (middle new : List ℕ) → step (plain_problem p) w a ≡ None → middle ≡ old → new ≡ middle ++ stopped_line (k + 1) → new ≡ all
+      pub all-stop : (middle new : List ℕ) → step (plain_problem p) w a ≡ None → middle ≡ old → new ≡ middle ++ stopped_line (k + 1) → new ≡
+          all
       all-stop middle new s q r =
           r ∙ (ap (λ text. text ++ stopped_line (k + 1)) q
           ∙ (ap (λ text. old ++ text) (sym (after-action k w f a (drop (suc k) plan) None s))
           ∙ (ap (λ rest. old ++ lines_after p k w f rest) (sym (from-here plan k a l e)) ∙ so_far)))
 
       -- the lines that are left where it has one
-      pub lines-left : (new : List ℕ) (v : World) (g : FormulaTree) → step (plain_problem p) w a ≡ Some v → g ≡ progressed_in p v f → new ≡ old ++ (action_line p a ++ state_line p (k + 1) g) → new ++ lines_after p (k + 1) v g (drop (k + 1) plan) ≡ all
+      pub lines-left : (new : List ℕ) (v : World) (g : FormulaTree) → step (plain_problem p) w a ≡ Some v → g ≡ progressed_in p v f → new ≡
+          old ++ (action_line p a ++ state_line p (k + 1) g) → new ++ lines_after p (k + 1) v g (drop (k + 1) plan) ≡ all
       lines-left new v g s q r =
           let rest = drop (suc k) plan in
           let i : k + 1 ≡ suc k = omega arith in
@@ -63,7 +71,9 @@ module _ (p : Problem) where
           ∙ (ap (λ us. old ++ lines_after p k w f us) (sym (from-here plan k a l e)) ∙ so_far))))
 
   -- the lines that are left after that of the first state
-  pub first-left : (plan : List Action) (w : World) (f g : FormulaTree) (old new : List ℕ) → w ≡ (plain_problem p).first → f ≡ (plain_problem p).control → old ≡ [] → g ≡ progressed_in p w f → new ≡ old ++ state_line p 0 g → new ++ lines_after p 0 w g plan ≡ explain_text p plan
+  pub first-left : (plan : List Action) (w : World) (f g : FormulaTree) (old new : List ℕ) → w ≡ (plain_problem p).first → f ≡
+      (plain_problem p).control → old ≡ [] → g ≡ progressed_in p w f → new ≡ old ++ state_line p 0 g → new ++ lines_after p 0 w g plan ≡
+      explain_text p plan
   first-left plan w f g old new a b c d e =
       let h : g ≡ progressed_in p (plain_problem p).first (plain_problem p).control = d ∙ (λ i. progressed_in p (a i) (b i)) in
       let start : new ≡ state_line p 0 g = e ∙ ap (λ text. text ++ state_line p 0 g) c in

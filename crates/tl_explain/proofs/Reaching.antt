@@ -1,5 +1,6 @@
 -- How far a plan is followed: its states so far, and the residual after them.
-use Rattle.std.proofs.Common.{◌≡◌, ◌<◌, ◌+◌, ℕ, zero, suc, List, [], ◌∷◌, ◌++◌, take, drop, length, get_or, Some, refl, sym, ap, ◌∙◌, subst, arith, length-take}
+use Rattle.std.proofs.Common.{◌≡◌, ◌<◌, ◌+◌, ℕ, zero, suc, List, [], ◌∷◌, ◌++◌, take, drop, length, get_or, Some, refl, sym, ap, ◌∙◌, subst}
+use Rattle.std.proofs.Common.{arith, length-take}
 use Rattle.tl_check.proofs.ExecutionLaws.{last-is, states-begun, states-count, states-on, past-here}
 use Rattle.tl_check.specs.Verdicts.{IsPastInAction}
 use Rattle.tl_eval.specs.Notes.{Tells}
@@ -26,7 +27,8 @@ front-old w v [] = refl
 front-old w v (u ∷ ws) = ap (λ us. w ∷ us) (front-old u v ws)
 
 -- the residual after one world more
-residual-snoc : (p : PlainProblem) (ws : List World) (v : World) (f : FormulaTree) → residual p (ws ++ v ∷ []) f ≡ progressed (situation_of p v) no_values (residual p ws f)
+residual-snoc : (p : PlainProblem) (ws : List World) (v : World) (f : FormulaTree) → residual p (ws ++ v ∷ []) f ≡
+    progressed (situation_of p v) no_values (residual p ws f)
 unfolding residual
 residual-snoc p [] v f = refl
 residual-snoc p (w ∷ ws) v f = residual-snoc p ws v (progressed (situation_of p w) no_values f)
@@ -46,9 +48,17 @@ module _ (p : PlainProblem) (plan : List Action) where
     pub world : last_of from after ≡ w
     pub formula : residual p (from ∷ after) p.control ≡ f
 
-  pub reached-first : (w : World) (f : FormulaTree) → w ≡ p.first → f ≡ progressed (situation_of p p.first) no_values p.control → Reached 0 w f
+  pub reached-first : (w : World) (f : FormulaTree) → w ≡ p.first → f ≡ progressed (situation_of p p.first) no_values p.control →
+      Reached 0 w f
   unfolding residual
-  reached-first w f a b = record { from = p.first; after = []; executes = states-begun p plan (p.first ∷ []) refl; world = sym a; formula = sym b }
+  reached-first w f a b = record {
+    from = p.first;
+    after = [];
+    executes = states-begun p plan (p.first ∷ []) refl;
+    world = sym a;
+    formula =
+        sym b;
+  }
 
   module _ (k : ℕ) (w : World) (f : FormulaTree) (r : Reached k w f) (a : Action) (l : k < length plan) (e : a ≡ get_or plan k a) where
     count : length r.after ≡ k
@@ -60,7 +70,8 @@ module _ (p : PlainProblem) (plan : List Action) where
     onward : (v : World) → step p w a ≡ Some v → states p (take (k + 1) plan) ≡ Some (r.from ∷ (r.after ++ v ∷ []))
     onward v s = states-on p plan k (r.from ∷ r.after) a w r.executes l e last v (r.from ∷ (r.after ++ v ∷ [])) s refl
 
-    pub reached-on : (v : World) (g : FormulaTree) → step p w a ≡ Some v → g ≡ progressed (situation_of p v) no_values f → Reached (k + 1) v g
+    pub reached-on : (v : World) (g : FormulaTree) → step p w a ≡ Some v → g ≡ progressed (situation_of p v) no_values f →
+        Reached (k + 1) v g
     reached-on v g s q = record {
       from = r.from;
       after = r.after ++ v ∷ [];
@@ -74,7 +85,8 @@ module _ (p : PlainProblem) (plan : List Action) where
     action-past note told = past-here p plan k (r.from ∷ r.after) a w r.executes l e last note told
 
     -- progressing the residual in the world after the action does
-    pub progression-past : (v : World) (note : RangeNote) → step p w a ≡ Some v → Tells (looked_by_progressing p v f) note → IsPastInProgression p plan (k + 1) note
+    pub progression-past : (v : World) (note : RangeNote) → step p w a ≡ Some v → Tells (looked_by_progressing p v f) note →
+        IsPastInProgression p plan (k + 1) note
     progression-past v note s told =
         let front = sym (ap (λ us. residual p us p.control) (front-old r.from v r.after) ∙ r.formula) in
         record {
@@ -85,7 +97,8 @@ module _ (p : PlainProblem) (plan : List Action) where
           from = r.from;
           after = r.after ++ v ∷ [];
           executes = onward v s;
-          told = subst (λ u. Tells (looked_by_progressing p u (residual p (all_but_last r.from (r.after ++ v ∷ [])) p.control)) note) (sym (last-new r.from v r.after)) (subst (λ g. Tells (looked_by_progressing p v g) note) front told);
+          told = subst (λ u. Tells (looked_by_progressing p u (residual p (all_but_last r.from (r.after ++ v ∷ [])) p.control)) note)
+              (sym (last-new r.from v r.after)) (subst (λ g. Tells (looked_by_progressing p v g) note) front told);
         }
 
   -- progressing the control formula in the first world looks at one

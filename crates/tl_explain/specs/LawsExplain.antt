@@ -19,7 +19,8 @@ pub record ShowsState (p : Problem) (text : List ℕ) (k : ℕ) (ws : List World
 -- for each front of the plan that executes, the lines show the state after it
 abbrev pub ShowsStates : Problem → List Action → List ℕ → Type 0
 ShowsStates p plan text =
-    (front rest : List Action) (ws : List World) → plan ≡ front ++ rest → states (plain_problem p) front ≡ Some ws → ShowsState p text (length front) ws
+    (front rest : List Action) (ws : List World) → plan ≡ front ++ rest → states (plain_problem p) front ≡ Some ws →
+    ShowsState p text (length front) ws
 
 -- the last line is `; end`, and all actions execute
 pub record EndsWithAll (p : Problem) (plan : List Action) (text : List ℕ) : Type 0 where

@@ -1,5 +1,7 @@
 -- The verdict on a plan with a repeated part, by its states.
-use Rattle.std.proofs.Common.{◌≡◌, ◌<◌, ◌+◌, ◌-◌, ℕ, zero, suc, List, [], ◌∷◌, ◌++◌, take, drop, length, get_or, Bool, true, false, true≢false, Option, Some, None, Result, Ok, Err, IsErrAnd, refl, sym, ap, ◌∙◌, subst, inr, arith, drop-cons, add-one, append_assoc, length-append, length-take}
+use Rattle.std.proofs.Common.{◌≡◌, ◌<◌, ◌+◌, ◌-◌, ℕ, zero, suc, List, [], ◌∷◌, ◌++◌, take, drop, length, get_or, Bool, true, false}
+use Rattle.std.proofs.Common.{true≢false, Option, Some, None, Result, Ok, Err, IsErrAnd, refl, sym, ap, ◌∙◌, subst, inr, arith, drop-cons}
+use Rattle.std.proofs.Common.{add-one, append_assoc, length-append, length-take}
 use Rattle.std.specs.Prelude.{slice_get, slice_index_or}
 use Rattle.std.proofs.lemmas.List.{get_or-take, get_or_default}
 use Rattle.std.proofs.lemmas.Option.{slice_get_within}
@@ -55,7 +57,8 @@ module _ (p : PlainProblem) (ws : List World) (n : ℕ) (loops : n + 1 < length 
 
   around : take n once ++ (slice_index_or once n p.first ∷ drop (n + 1) once) ≡ once
   around =
-      ap (λ (us : List World). take n once ++ us) (ap (λ (k : ℕ). slice_index_or once n p.first ∷ drop k once) (add-one n) ∙ sym (drop-cons once n p.first (omega (arith, once-length)))) ∙ take-drop n once
+      ap (λ (us : List World). take n once ++ us) (ap (λ (k : ℕ). slice_index_or once n p.first ∷ drop k once) (add-one n) ∙
+      sym (drop-cons once n p.first (omega (arith, once-length)))) ∙ take-drop n once
 
   whole : take n once ++ (slice_index_or once n p.first ∷ (drop (n + 1) once ++ get_or ws (length ws - 1) p.first ∷ [])) ≡ ws
   whole =
@@ -88,7 +91,12 @@ module _ (p : PlainProblem) (ws : List World) (n : ℕ) (loops : n + 1 < length 
         closes = last-there ∙ (closed ∙ sym first-there)
 
         misses-goal : meets_goal u p.goal p.avoid ≡ false → LoopMissesGoal p stem cycle
-        misses-goal h = record { states = loop_states; closes = closes; misses = ap (λ (w : World). meets_goal w p.goal p.avoid) first-there ∙ h }
+        misses-goal h = record {
+          states = loop_states;
+          closes = closes;
+          misses =
+              ap (λ (w : World). meets_goal w p.goal p.avoid) first-there ∙ h;
+        }
 
         module _ (met : meets_goal u p.goal p.avoid ≡ true) where
           reaches : meets_goal loop_states.first p.goal p.avoid ≡ true
@@ -110,9 +118,16 @@ module _ (p : PlainProblem) (ws : List World) (n : ℕ) (loops : n + 1 < length 
             told = subst (λ (us : List World). Tells (looked_round p us k p.control) note) (sym around) h;
           })
             where
-              within : (o : Option World) → slice_get once k ≡ o → Among (operation_of note) (looked_after p once o p.control) → k < length stem + length cycle
+              within : (o : Option World) → slice_get once k ≡ o → Among (operation_of note) (looked_after p once o p.control) →
+                  k < length stem + length cycle
               within None q m = absurd m
-              within (Some w) q m = omega (arith, slice_get_within once k w q, once-length, states-count p (stem ++ cycle) ws executes, length-append stem cycle)
+              within (Some w) q m = omega (
+                arith,
+                slice_get_within once k w q,
+                once-length,
+                states-count p (stem ++ cycle) ws executes,
+                length-append stem cycle,
+              )
 
   -- ---- the verdicts
 
@@ -122,21 +137,32 @@ module _ (p : PlainProblem) (ws : List World) (n : ℕ) (loops : n + 1 < length 
 
     module _ (closed : v ≡ u) where
       pub judged-missing : meets_goal u p.goal p.avoid ≡ false → IsJudgementOn p ws n (Ok verdict.GoalUnmet)
-      judged-missing h = record { verdict = λ stem cycle c e. misses-goal stem cycle c e u v first last closed h; cause = λ stem cycle c e. tt }
+      judged-missing h = record {
+        verdict = λ stem cycle c e. misses-goal stem cycle c e u v first last closed h;
+        cause = λ stem cycle c e.
+            tt;
+      }
 
       module _ (met : meets_goal u p.goal p.avoid ≡ true) (us : List World) (all : us ≡ once) where
         pub judged-valid : (b : Bool) → b ≡ true → ObeysOn p n us (Ok b) → IsJudgementOn p ws n (Ok verdict.Valid)
-        judged-valid b h o = record { verdict = λ stem cycle c e. accepts stem cycle c e u v first last closed met ((subst (λ (vs : List World). ObeysOn p n vs (Ok b)) all o).1 h); cause = λ stem cycle c e. tt }
-
-        pub judged-breaking : (b : Bool) → b ≡ false → ObeysOn p n us (Ok b) → IsJudgementOn p ws n (Ok verdict.Disobeys)
-        judged-breaking b h o = record {
-          verdict = λ stem cycle c e. breaks-control stem cycle c e u v first last closed met (λ s. true≢false (sym ((subst (λ (vs : List World). ObeysOn p n vs (Ok b)) all o).0 s) ∙ h));
+        judged-valid b h o = record {
+          verdict = λ stem cycle c e. accepts stem cycle c e u v first last closed met
+              ((subst (λ (vs : List World). ObeysOn p n vs (Ok b)) all o).1 h);
           cause = λ stem cycle c e. tt;
         }
 
-        pub judged-past : (r : Result LoopVerdict CheckFault) (x : CheckFault) → IsErrAnd r (λ y. y ≡ x) → ObeysOn p n us (Err x) → IsJudgementOn p ws n r
+        pub judged-breaking : (b : Bool) → b ≡ false → ObeysOn p n us (Ok b) → IsJudgementOn p ws n (Ok verdict.Disobeys)
+        judged-breaking b h o = record {
+          verdict = λ stem cycle c e. breaks-control stem cycle c e u v first last closed met
+              (λ s. true≢false (sym ((subst (λ (vs : List World). ObeysOn p n vs (Ok b)) all o).0 s) ∙ h));
+          cause = λ stem cycle c e. tt;
+        }
+
+        pub judged-past : (r : Result LoopVerdict CheckFault) (x : CheckFault) → IsErrAnd r (λ y. y ≡ x) → ObeysOn p n us (Err x) →
+            IsJudgementOn p ws n r
         judged-past (Ok a) x same o = absurd same
         judged-past (Err y) x same o = subst (λ (z : CheckFault). IsJudgementOn p ws n (Err z)) (sym same) (record {
           verdict = λ stem cycle c e. tt;
-          cause = λ stem cycle c e. past-in-loop stem cycle c e u v first last closed met x (subst (λ (vs : List World). ObeysOn p n vs (Err x)) all o);
+          cause = λ stem cycle c e. past-in-loop stem cycle c e u v first last closed met x
+              (subst (λ (vs : List World). ObeysOn p n vs (Err x)) all o);
         })

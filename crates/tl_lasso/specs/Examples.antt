@@ -43,7 +43,8 @@ next_goes_round : take 3 (next_labels ((false ∷ true ∷ false ∷ []) ++ drop
 next_goes_round = refl
 
 -- an until that is pending at the end of the loop is settled by the loop's first states
-until_is_settled_round_the_loop : take 3 (until_labels (true ∷ true ∷ true ∷ true ∷ true ∷ []) (false ∷ true ∷ false ∷ true ∷ false ∷ [])) ≡ true ∷ true ∷ true ∷ []
+until_is_settled_round_the_loop : take 3 (until_labels (true ∷ true ∷ true ∷ true ∷ true ∷ []) (false ∷ true ∷ false ∷ true ∷ false ∷ [])) ≡
+    true ∷ true ∷ true ∷ []
 until_is_settled_round_the_loop = refl
 
 -- and is false where the second formula never comes
@@ -65,7 +66,8 @@ module _ (names : List (List ℕ)) (operators : List Operator) where
   no_form_breaks_the_shape = refl
 
   -- `(repeat)`
-  nothing_is_repeated : loop_breaks names operators (more_forms (list (more_forms (symbol (codes "repeat") 1) no_form) 0) no_form) ≡ (Shape, 0) ∷ []
+  nothing_is_repeated : loop_breaks names operators (more_forms (list (more_forms (symbol (codes "repeat") 1) no_form) 0) no_form) ≡
+      (Shape, 0) ∷ []
   nothing_is_repeated = refl
 
   -- `repeat`
@@ -77,7 +79,8 @@ module _ (names : List (List ℕ)) (operators : List Operator) where
   another_word = refl
 
 -- `(repeat F)`
-one_form_is_repeated : (f : FormTree) → repeated (list (more_forms (symbol (codes "repeat") 1) (more_forms f no_form)) 0) ≡ Some (more_forms f no_form)
+one_form_is_repeated : (f : FormTree) → repeated (list (more_forms (symbol (codes "repeat") 1) (more_forms f no_form)) 0) ≡
+    Some (more_forms f no_form)
 one_form_is_repeated f = refl
 
 -- the last of three forms, and those before it

@@ -8,4 +8,5 @@ use Rattle.tl_terms.specs.Problem.{PlainProblem}
 -- two verdicts that are right of one plan are the same, so each is answered exactly where it is
 -- right
 abbrev pub OneLoopVerdict : Type 0
-OneLoopVerdict = (p : PlainProblem) (stem cycle : List Action) (v u : LoopVerdict) → IsLoopVerdict p stem cycle v → IsLoopVerdict p stem cycle u → v ≡ u
+OneLoopVerdict = (p : PlainProblem) (stem cycle : List Action) (v u : LoopVerdict) → IsLoopVerdict p stem cycle v →
+    IsLoopVerdict p stem cycle u → v ≡ u

@@ -28,4 +28,5 @@ ReadsLoop problem fs r = Reads (λ (x : LoopPlan). x) r (breaks_in problem fs) (
 -- the actions are what the form of the repeated part stands for, with so many before them, and it
 -- breaks nothing; or the fault is the first that it breaks
 abbrev pub ReadsRepeated : Problem → ℕ → FormTree → Result (List Action) FormFault → Type 0
-ReadsRepeated problem before f r = Reads (λ (xs : List Action). xs) r (repeat_breaks problem.names problem.domain.operators before f) (repeat_meant problem.names problem.domain.operators f)
+ReadsRepeated problem before f r = Reads (λ (xs : List Action). xs) r (repeat_breaks problem.names problem.domain.operators before f)
+    (repeat_meant problem.names problem.domain.operators f)

@@ -1,5 +1,6 @@
 -- The values of a frame as bindings.
-use Rattle.std.proofs.Common.{◌≡◌, ◌<◌, ◌≤◌, ◌+◌, ℕ, List, [], ◌∷◌, ◌++◌, true, false, cond, ◌==◌, get_or, length, Option, Some, None, is_some, refl, sym, ap, ◌∙◌, subst, arith}
+use Rattle.std.proofs.Common.{◌≡◌, ◌<◌, ◌≤◌, ◌+◌, ℕ, List, [], ◌∷◌, ◌++◌, true, false, cond, ◌==◌, get_or, length, Option, Some, None}
+use Rattle.std.proofs.Common.{is_some, refl, sym, ap, ◌∙◌, subst, arith}
 use mathlib.Core.Path.{fun_ext}
 use native.Mathlib.Decide.{dec_lt}
 use borrow.Author.Tests.{eq-eqb, ne_eqb}
@@ -13,12 +14,14 @@ use Rattle.tl_syntax.specs.Lists.{Each}
 use Rattle.tl_syntax.specs.Substitution.{or_else}
 use Rattle.tl_syntax.proofs.ListLaws.{Each-append}
 
-appended : (bs : List Binding) (b : Binding) (q : ℕ) → Each (λ x. is_some x.value ≡ true) bs → assignment_of (bs ++ b ∷ []) q ≡ or_else (assignment_of bs q) (cond (q == b.slot) b.value None)
+appended : (bs : List Binding) (b : Binding) (q : ℕ) → Each (λ x. is_some x.value ≡ true) bs → assignment_of (bs ++ b ∷ []) q ≡
+    or_else (assignment_of bs q) (cond (q == b.slot) b.value None)
 appended [] b q h = refl
-appended (x ∷ bs) b q h = (elim (q == x.slot) as (λ t. cond t x.value (assignment_of (bs ++ b ∷ []) q) ≡ or_else (cond t x.value (assignment_of bs q)) (cond (q == b.slot) b.value None)) [
-  | true ↦ known x.value h.0
-  | false ↦ appended bs b q h.1
-])
+appended (x ∷ bs) b q h = (elim (q == x.slot) as (λ t. cond t x.value (assignment_of (bs ++ b ∷ []) q) ≡
+    or_else (cond t x.value (assignment_of bs q)) (cond (q == b.slot) b.value None)) [
+      | true ↦ known x.value h.0
+      | false ↦ appended bs b q h.1
+    ])
   where
     known : (o : Option Value) → is_some o ≡ true → o ≡ or_else o (cond (q == b.slot) b.value None)
     known (Some v) k = refl
@@ -44,7 +47,8 @@ module _ (n : ℕ) (frame : List (Option Value)) (bs : List Binding) (was : Bind
   }
 
   -- the next slot has this value
-  pub binds-more : (v : Value) → assignment_in frame n ≡ Some v → (b : Binding) → b.slot ≡ n → b.value ≡ Some v → (cs : List Binding) → cs ≡ bs ++ b ∷ [] → BindsBefore (n + 1) frame cs
+  pub binds-more : (v : Value) → assignment_in frame n ≡ Some v → (b : Binding) → b.slot ≡ n → b.value ≡ Some v → (cs : List Binding) → cs ≡
+      bs ++ b ∷ [] → BindsBefore (n + 1) frame cs
   binds-more v is b slot value cs e = subst (BindsBefore (n + 1) frame) (sym e) (record {
     set = (Each-append (λ x. is_some x.value ≡ true) bs (b ∷ [])).1 (was.set, (ap is_some value, tt));
     values = λ q h. elim (dec_lt q n) [
@@ -65,14 +69,17 @@ module _ (n : ℕ) (frame : List (Option Value)) (bs : List Binding) (was : Bind
           ∙ (ap (λ t. cond t b.value None) (eq-eqb n b.slot (sym slot)) ∙ (value ∙ sym is)))
 
 -- the next slot has this value, or none
-pub binds-next : (n : ℕ) (frame : List (Option Value)) (bs : List Binding) → BindsBefore n frame bs → (o : Option Value) → assignment_in frame n ≡ o → (cs : List Binding) → cs ≡ with_slot bs n o → BindsBefore (n + 1) frame cs
+pub binds-next : (n : ℕ) (frame : List (Option Value)) (bs : List Binding) → BindsBefore n frame bs → (o : Option Value) →
+    assignment_in frame n ≡ o → (cs : List Binding) → cs ≡ with_slot bs n o → BindsBefore (n + 1) frame cs
 binds-next n frame bs was (Some v) is cs e = binds-more n frame bs was v is (record { slot = n; value = Some v }) refl refl cs e
 binds-next n frame bs was None is cs e = subst (BindsBefore (n + 1) frame) (sym e) (binds-past n frame bs was is)
 
-pub slot-is : (frame : List (Option Value)) (n : ℕ) (d o : Option Value) → n < length frame → get_or frame n d ≡ o → assignment_in frame n ≡ o
+pub slot-is : (frame : List (Option Value)) (n : ℕ) (d o : Option Value) → n < length frame → get_or frame n d ≡ o → assignment_in frame n ≡
+    o
 slot-is frame n d o h e = ap slot_value (slice_get-get_or frame n d h) ∙ e
 
-pub binds-all : (n : ℕ) (frame : List (Option Value)) (bs : List Binding) → BindsBefore n frame bs → length frame ≤ n → assignment_of bs ≡ assignment_in frame
+pub binds-all : (n : ℕ) (frame : List (Option Value)) (bs : List Binding) → BindsBefore n frame bs → length frame ≤ n → assignment_of bs ≡
+    assignment_in frame
 binds-all n frame bs was h = fun_ext (λ q. elim (dec_lt q n) [
   | yes l ↦ was.values q l
   | no l ↦ was.rest q (omega arith) ∙ sym (ap slot_value (slice_get_past frame q (omega arith)))

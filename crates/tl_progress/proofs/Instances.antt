@@ -1,5 +1,6 @@
 -- The instances of a quantifier, in tuple order.
-use Rattle.std.proofs.Common.{◌≡◌, ◌<◌, suc, List, [], ◌∷◌, ◌++◌, flat_map, length, Bool, true, false, not, Option, Some, None, inl, inr, refl, sym, ap, ◌∙◌, subst, arith}
+use Rattle.std.proofs.Common.{◌≡◌, ◌<◌, suc, List, [], ◌∷◌, ◌++◌, flat_map, length, Bool, true, false, not, Option, Some, None, inl, inr}
+use Rattle.std.proofs.Common.{refl, sym, ap, ◌∙◌, subst, arith}
 use mathlib.Core.Bool.{beq}
 use Rattle.tl_syntax.specs.declared.bound.Bound.{Bound}
 use Rattle.tl_syntax.specs.declared.junction.Junction.{Junction}
@@ -43,17 +44,22 @@ pub record Quantifier (g : Signature) (ss : List Var) (b : Bound) (f : FormulaTr
   pub in_frame : Each (λ s. s.slot < 32) ss
   pub part : FitsSomewhere g f
 
-pub quantifier-fits : (q : Problem) (junction : Junction) (ss : List Var) (b : Bound) (f : FormulaTree) → FitsSomewhere (signature_of q.domain) (quantified junction ss b f) → Quantifier (signature_of q.domain) ss b f
+pub quantifier-fits : (q : Problem) (junction : Junction) (ss : List Var) (b : Bound) (f : FormulaTree) →
+    FitsSomewhere (signature_of q.domain) (quantified junction ss b f) → Quantifier (signature_of q.domain) ss b f
 unfolding Fits
 quantifier-fits q junction ss b f h = made (by junction h.fits)
   where
-    by : (s : Junction) → Fits (signature_of q.domain) h.around (quantified s ss b f) → VariablesFit (signature_of q.domain) h.around ss b × Fits (signature_of q.domain) (slots_of ss ++ h.around) f
+    by : (s : Junction) → Fits (signature_of q.domain) h.around (quantified s ss b f) → VariablesFit (signature_of q.domain) h.around ss b ×
+        Fits (signature_of q.domain) (slots_of ss ++ h.around) f
     by All x = x
     by Any x = x
 
-    made : VariablesFit (signature_of q.domain) h.around ss b × Fits (signature_of q.domain) (slots_of ss ++ h.around) f → Quantifier (signature_of q.domain) ss b f
+    made : VariablesFit (signature_of q.domain) h.around ss b × Fits (signature_of q.domain) (slots_of ss ++ h.around) f →
+        Quantifier (signature_of q.domain) ss b f
     made v =
-        let few = few-variables ss b v.0.differ v.0.occur (bound-few (signature_of q.domain) (declared-few _ q.domain.predicates q.domain_keeps.predicates) (declared-few _ q.domain.functions q.domain_keeps.functions) b v.0.bound) in
+        let few = few-variables ss b v.0.differ v.0.occur (bound-few (signature_of q.domain)
+        (declared-few _ q.domain.predicates q.domain_keeps.predicates)
+        (declared-few _ q.domain.functions q.domain_keeps.functions) b v.0.bound) in
         record {
           differ = v.0.differ;
           occur = v.0.occur;
@@ -66,7 +72,11 @@ quantifier-fits q junction ss b f h = made (by junction h.fits)
 among-flat_map : {A B : Type 0} (h : A → List B) (xs : List A) (x : A) (y : B) → Among x xs → Among y (h x) → Among y (flat_map h xs)
 among-flat_map h [] x y m k = absurd m
 among-flat_map h (z ∷ xs) x y m k =
-    (One-append (λ v. v ≡ y) (h z) (flat_map h xs)).1 (elim m [ inl e ↦ inl (subst (λ u. Among y (h u)) (sym e) k) | inr n ↦ inr (among-flat_map h xs x y n k) ])
+    (One-append (λ v. v ≡ y) (h z) (flat_map h xs)).1 (elim m [
+      | inl e ↦ inl (subst (λ u. Among y (h u)) (sym e) k)
+      | inr n ↦ inr
+          (among-flat_map h xs x y n k)
+    ])
 
 module _ (p : PlainProblem) (w : World) (e : Assignment) (ss : List Var) (b : Bound) (f : FormulaTree) where
   -- its tuples
@@ -77,17 +87,22 @@ module _ (p : PlainProblem) (w : World) (e : Assignment) (ss : List Var) (b : Bo
   abbrev pub instance_idle : List Value → Bool
   instance_idle t = idly_true p w (bind ss t e) f
 
-  pub quantified-idle : (junction : Junction) (stop : Bool) → stop ≡ deciding_truth junction → idly_true p w e (quantified junction ss b f) ≡ decided stop instance_idle all_tuples
+  pub quantified-idle : (junction : Junction) (stop : Bool) → stop ≡ deciding_truth junction →
+      idly_true p w e (quantified junction ss b f) ≡ decided stop instance_idle all_tuples
   unfolding idle_true
   quantified-idle All stop h = ap (λ b. decided b instance_idle all_tuples) (sym h)
   quantified-idle Any stop h = ap (λ b. decided b instance_idle all_tuples) (sym h)
 
-  pub quantified-looked : (junction : Junction) (n : Bool) (d : LookedTable) (t : List Value) (o : Operation) → Among t all_tuples → Among o (looked_in_basics n d (situation_of p w ∷ []) (situation_of p w) (bind ss t e) f)
+  pub quantified-looked : (junction : Junction) (n : Bool) (d : LookedTable) (t : List Value) (o : Operation) → Among t all_tuples →
+      Among o (looked_in_basics n d (situation_of p w ∷ []) (situation_of p w) (bind ss t e) f)
       → Among o (looked_in_basics n d (situation_of p w ∷ []) (situation_of p w) e (quantified junction ss b f))
   unfolding looked_in_basics
-  quantified-looked junction n d t o m h = by junction (among-flat_map (λ u. looked_in_basics n d (situation_of p w ∷ []) (situation_of p w) (bind ss u e) f) (all_tuples ++ []) t o ((One-append (λ y. y ≡ t) all_tuples []).1 (inl m)) h)
+  quantified-looked junction n d t o m h = by junction (among-flat_map
+      (λ u. looked_in_basics n d (situation_of p w ∷ []) (situation_of p w) (bind ss u e) f) (all_tuples ++ []) t o
+      ((One-append (λ y. y ≡ t) all_tuples []).1 (inl m)) h)
     where
-      by : (s : Junction) → Among o (flat_map (λ u. looked_in_basics n d (situation_of p w ∷ []) (situation_of p w) (bind ss u e) f) (all_tuples ++ [])) → Among o (looked_in_basics n d (situation_of p w ∷ []) (situation_of p w) e (quantified s ss b f))
+      by : (s : Junction) → Among o (flat_map (λ u. looked_in_basics n d (situation_of p w ∷ []) (situation_of p w) (bind ss u e) f)
+          (all_tuples ++ [])) → Among o (looked_in_basics n d (situation_of p w ∷ []) (situation_of p w) e (quantified s ss b f))
       by All x = x
       by Any x = x
 
@@ -103,15 +118,21 @@ module _ (p : PlainProblem) (w : World) (e : Assignment) (ss : List Var) (b : Bo
   open-begun stop = ap (decided stop instance_idle) (all-after-none all_tuples)
 
   module _ (d : DifferInSlot ss) (o : OccurIn ss b) (after : Option (List Value)) where
-    pub no-more : (answer : Option (List Value)) → IsNext (length ss) (λ t. bound_true (situation_of p w) (bind ss t e) b) after answer → answer ≡ None → left_after after ≡ []
-    no-more answer h k = rest-none (situation_of p w) e ss b d o after (subst (IsNext (length ss) (λ t. bound_true (situation_of p w) (bind ss t e) b) after) k h)
+    pub no-more : (answer : Option (List Value)) → IsNext (length ss) (λ t. bound_true (situation_of p w) (bind ss t e) b) after answer →
+        answer ≡ None → left_after after ≡ []
+    no-more answer h k = rest-none (situation_of p w) e ss b d o after
+        (subst (IsNext (length ss) (λ t. bound_true (situation_of p w) (bind ss t e) b) after) k h)
 
-    pub open-end : (junction : Junction) (stop : Bool) → stop ≡ deciding_truth junction → Open stop after → left_after after ≡ [] → not stop ≡ idly_true p w e (quantified junction ss b f)
-    open-end junction stop is was k = decided-end instance_idle stop ∙ sym (quantified-idle junction stop is ∙ was ∙ ap (decided stop instance_idle) k)
+    pub open-end : (junction : Junction) (stop : Bool) → stop ≡ deciding_truth junction → Open stop after → left_after after ≡ [] →
+        not stop ≡ idly_true p w e (quantified junction ss b f)
+    open-end junction stop is was k = decided-end instance_idle stop ∙
+        sym (quantified-idle junction stop is ∙ was ∙ ap (decided stop instance_idle) k)
 
-    module _ (answer : Option (List Value)) (t : List Value) (h : IsNext (length ss) (λ u. bound_true (situation_of p w) (bind ss u e) b) after answer) (k : answer ≡ Some t) where
+    module _ (answer : Option (List Value)) (t : List Value) (h : IsNext (length ss)
+        (λ u. bound_true (situation_of p w) (bind ss u e) b) after answer) (k : answer ≡ Some t) where
       pub one-more : left_after after ≡ t ∷ left_after (Some t)
-      one-more = rest-some (situation_of p w) e ss b d o after t (subst (IsNext (length ss) (λ u. bound_true (situation_of p w) (bind ss u e) b) after) k h)
+      one-more = rest-some (situation_of p w) e ss b d o after t (subst
+          (IsNext (length ss) (λ u. bound_true (situation_of p w) (bind ss u e) b) after) k h)
 
       pub fewer-left : length (left_after (Some t)) < length (left_after after)
       fewer-left = let size : length (left_after after) ≡ suc (length (left_after (Some t))) = ap length one-more in omega arith
@@ -122,9 +143,12 @@ module _ (p : PlainProblem) (w : World) (e : Assignment) (ss : List Var) (b : Bo
       pub open-on : (stop x : Bool) → Open stop after → x ≡ instance_idle t → beq x stop ≡ false → Open stop (Some t)
       open-on stop x was e k = was ∙ ap (decided stop instance_idle) one-more ∙ decided-on instance_idle t (left_after (Some t)) stop x e k
 
-      pub open-here : (junction : Junction) (stop x : Bool) → stop ≡ deciding_truth junction → Open stop after → x ≡ instance_idle t → beq x stop ≡ true → stop ≡ idly_true p w e (quantified junction ss b f)
-      open-here junction stop x is was e k = sym (quantified-idle junction stop is ∙ was ∙ ap (decided stop instance_idle) one-more ∙ decided-here instance_idle t (left_after (Some t)) stop x e k)
+      pub open-here : (junction : Junction) (stop x : Bool) → stop ≡ deciding_truth junction → Open stop after → x ≡ instance_idle t →
+          beq x stop ≡ true → stop ≡ idly_true p w e (quantified junction ss b f)
+      open-here junction stop x is was e k = sym (quantified-idle junction stop is ∙ was ∙ ap (decided stop instance_idle) one-more ∙
+          decided-here instance_idle t (left_after (Some t)) stop x e k)
 
-      pub caused : (junction : Junction) (x : EvalFault) → IsCausedBy (looked_idly p w (bind ss t e) f) x → IsCausedBy (looked_idly p w e (quantified junction ss b f)) x
+      pub caused : (junction : Junction) (x : EvalFault) → IsCausedBy (looked_idly p w (bind ss t e) f) x →
+          IsCausedBy (looked_idly p w e (quantified junction ss b f)) x
       caused junction (fault.Range m) h = (quantified-looked junction true (looks_of p w) t _ is-tuple h.0, h.1)
       caused junction fault.NoMemory h = tt

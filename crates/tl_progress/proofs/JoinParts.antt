@@ -1,5 +1,6 @@
 -- The parts of a join by their positions, read from its node.
-use Rattle.std.proofs.Common.{◌≡◌, ◌<◌, ℕ, zero, suc, List, [], ◌∷◌, map, length, nat_lt, true, true≢false, Some, slice_get, refl, sym, ap, ◌∙◌, subst, arith}
+use Rattle.std.proofs.Common.{◌≡◌, ◌<◌, ℕ, zero, suc, List, [], ◌∷◌, map, length, nat_lt, true, true≢false, Some, slice_get, refl, sym, ap}
+use Rattle.std.proofs.Common.{◌∙◌, subst, arith}
 use borrow.Author.Tests.{ltb-true}
 use Rattle.tl_nodes.specs.declared.node.Node.{Node}
 use Rattle.tl_nodes.specs.declared.node.Node.TheVariants as node
@@ -25,7 +26,8 @@ basic-without-parts (goal_place f xs x) b = refl
 basic-without-parts (goal_not p xs) b = refl
 basic-without-parts f b = absurd (true≢false (sym b))
 
-without-parts : (ts : List FormulaTree) (at : ℕ) (a : Node) → fits at a ≡ true → ((ids : List ℕ) → a ≡ node.And ids → ⊥) → ((ids : List ℕ) → a ≡ node.Or ids → ⊥) → join_parts (tree_of_node ts a) ≡ []
+without-parts : (ts : List FormulaTree) (at : ℕ) (a : Node) → fits at a ≡ true → ((ids : List ℕ) → a ≡ node.And ids → ⊥) →
+    ((ids : List ℕ) → a ≡ node.Or ids → ⊥) → join_parts (tree_of_node ts a) ≡ []
 unfolding tree_of_node fits
 without-parts ts at node.True w n o = refl
 without-parts ts at node.False w n o = refl
@@ -47,19 +49,23 @@ length-trees ts [] = refl
 length-trees ts (i ∷ ids) = ap (λ (n : ℕ). suc n) (length-trees ts ids)
 
 pub position-in : (ts fs : List FormulaTree) (ids : List ℕ) (i : ℕ) → fs ≡ trees_at ts ids → i < length fs → i < length ids
-position-in ts fs ids i e h = let same : length fs ≡ length ids = ap (λ (gs : List FormulaTree). length gs) e ∙ length-trees ts ids in omega (arith, same, h)
+position-in ts fs ids i e h = let same : length fs ≡ length ids = ap (λ (gs : List FormulaTree). length gs) e ∙ length-trees ts ids in
+    omega (arith, same, h)
 
 pub part-smaller : (at : ℕ) (ids : List ℕ) (i q : ℕ) → all_below at ids ≡ true → slice_get ids i ≡ Some q → q < at
 part-smaller at [] i q b h = absurd (let z : ⊥ = cc in z)
-part-smaller at (j ∷ ids) zero q b h = let same : j ≡ q = cc in subst (λ k. k < at) same (ltb-true j at (both (nat_lt j at) (all_below at ids) b).0)
+part-smaller at (j ∷ ids) zero q b h = let same : j ≡ q = cc in subst (λ k. k < at) same
+    (ltb-true j at (both (nat_lt j at) (all_below at ids) b).0)
 part-smaller at (j ∷ ids) (suc i) q b h = part-smaller at ids i q (both (nat_lt j at) (all_below at ids) b).1 h
 
-tree-there : (ts : List FormulaTree) (ids : List ℕ) (i q : ℕ) → slice_get ids i ≡ Some q → slice_get (trees_at ts ids) i ≡ Some (tree_at ts q)
+tree-there : (ts : List FormulaTree) (ids : List ℕ) (i q : ℕ) → slice_get ids i ≡ Some q → slice_get (trees_at ts ids) i ≡
+    Some (tree_at ts q)
 tree-there ts [] i q h = absurd (let z : ⊥ = cc in z)
 tree-there ts (j ∷ ids) zero q h = let same : j ≡ q = cc in ap (λ k. Some (tree_at ts k)) same
 tree-there ts (j ∷ ids) (suc i) q h = tree-there ts ids i q h
 
-pub part-tree : (ts fs : List FormulaTree) (ids : List ℕ) (i q : ℕ) → fs ≡ trees_at ts ids → slice_get ids i ≡ Some q → slice_get fs i ≡ Some (tree_at ts q)
+pub part-tree : (ts fs : List FormulaTree) (ids : List ℕ) (i q : ℕ) → fs ≡ trees_at ts ids → slice_get ids i ≡ Some q → slice_get fs i ≡
+    Some (tree_at ts q)
 part-tree ts fs ids i q e h = ap (λ (gs : List FormulaTree). slice_get gs i) e ∙ tree-there ts ids i q h
 
 module _ (ts : List FormulaTree) (at : ℕ) (a : Node) (is : slice_get ts at ≡ Some (tree_of_node ts a)) where
@@ -71,5 +77,6 @@ module _ (ts : List FormulaTree) (at : ℕ) (a : Node) (is : slice_get ts at ≡
   unfolding tree_of_node
   parts-Or ids k = ap join_parts (shown ts at a is (node.Or ids) k) ∙ in-list (map (tree_at ts) ids)
 
-  pub no-parts : fits at a ≡ true → ((ids : List ℕ) → a ≡ node.And ids → ⊥) → ((ids : List ℕ) → a ≡ node.Or ids → ⊥) → join_parts (tree_at ts at) ≡ []
+  pub no-parts : fits at a ≡ true → ((ids : List ℕ) → a ≡ node.And ids → ⊥) → ((ids : List ℕ) → a ≡ node.Or ids → ⊥) →
+      join_parts (tree_at ts at) ≡ []
   no-parts w n o = ap join_parts (shown ts at a is a refl) ∙ without-parts ts at a w n o

@@ -22,5 +22,6 @@ nothing-known here nodes q = record {
 pub knows-still : (here : Here) (old new : Nodes) → Keeps (trees old) (trees new) → KnowsRightly here old → KnowsRightly here new
 knows-still here old new kept h = record {
   truths = truths-still (plain_problem here.task.now.problem) here.world.now (trees old) (trees new) kept (truths_in here.known) h.truths;
-  residuals = residuals-still (plain_problem here.task.now.problem) here.world.now (trees old) (trees new) kept (residuals_in here.known) h.residuals;
+  residuals = residuals-still (plain_problem here.task.now.problem) here.world.now (trees old) (trees new) kept
+      (residuals_in here.known) h.residuals;
 }

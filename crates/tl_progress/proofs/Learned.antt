@@ -15,14 +15,21 @@ use Rattle.tl_progress.proofs.Found.{found-more}
 use Rattle.tl_progress.proofs.PutLayers.{stays, longer}
 use Rattle.tl_progress.proofs.ResidualLayers.{residuals-still}
 
-module _ (p : PlainProblem) (w : World) (e : Assignment) (ts : List FormulaTree) (at : ℕ) (inside : at < length ts) (closed : InScope [] (free_slots (tree_at ts at))) where
-  pub truths-more : (old new : ℕ → Option Bool) (b : Bool) → ((q : ℕ) → new q ≡ cond (nat_eq at q) (Some b) (old q)) → b ≡ idly_true p w e (tree_at ts at) → AreTruths p w ts old → AreTruths p w ts new
+module _ (p : PlainProblem) (w : World) (e : Assignment) (ts : List FormulaTree) (at : ℕ) (inside : at < length ts)
+    (closed : InScope [] (free_slots (tree_at ts at))) where
+  pub truths-more : (old new : ℕ → Option Bool) (b : Bool) → ((q : ℕ) → new q ≡ cond (nat_eq at q) (Some b) (old q)) → b ≡
+      idly_true p w e (tree_at ts at) → AreTruths p w ts old → AreTruths p w ts new
   truths-more old new b put is was =
-      found-more (λ k y. (k < length ts) × ((d : Assignment) → y ≡ idly_true p w d (tree_at ts k))) old new at b put (inside, λ d. is ∙ closed-idle (situation_of p w) e d (tree_at ts at) closed) was
+      found-more (λ k y. (k < length ts) × ((d : Assignment) → y ≡ idly_true p w d (tree_at ts k))) old new at b put
+      (inside, λ d. is ∙ closed-idle (situation_of p w) e d (tree_at ts at) closed) was
 
   module _ (us : List FormulaTree) (kept : Keeps ts us) where
-    pub residuals-more : (old new : ℕ → Option ℕ) (i : ℕ) → ((q : ℕ) → new q ≡ cond (nat_eq at q) (Some i) (old q)) → slice_get us i ≡ Some (residual p w e (tree_at ts at)) → AreResiduals p w ts old → AreResiduals p w us new
+    pub residuals-more : (old new : ℕ → Option ℕ) (i : ℕ) → ((q : ℕ) → new q ≡ cond (nat_eq at q) (Some i) (old q)) → slice_get us i ≡
+        Some (residual p w e (tree_at ts at)) → AreResiduals p w ts old → AreResiduals p w us new
     residuals-more old new i put is was =
-        found-more (λ k y. (k < length us) × ((d : Assignment) → slice_get us y ≡ Some (residual p w d (tree_at us k)))) old new at i put
-        (longer ts us kept at inside, λ d. is ∙ ap Some (closed-progressed (situation_of p w) e d (tree_at ts at) closed ∙ ap (residual p w d) (sym (stays ts us kept at inside))))
+        found-more (λ k y. (k < length us) × ((d : Assignment) → slice_get us y ≡ Some (residual p w d (tree_at us k)))) old new at i put (
+          longer ts us kept at inside,
+          λ d. is ∙ ap Some (closed-progressed (situation_of p w) e d (tree_at ts at) closed ∙
+              ap (residual p w d) (sym (stays ts us kept at inside))),
+        )
         (residuals-still p w ts us kept old was)

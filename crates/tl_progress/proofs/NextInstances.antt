@@ -34,14 +34,17 @@ module _ (p : PlainProblem) (w : World) (e : Assignment) (ss : List Var) (b : Bo
   abbrev pub next_of_all : List FormulaTree
   next_of_all = map instance_next (all_tuples p w e ss b f)
 
-  pub instances-begun : (junction : Junction) (us : List FormulaTree) (ids : List ℕ) → ids ≡ [] → Gathered junction us ids (next_after None) next_of_all
-  instances-begun junction us ids k = subst (λ (fs : List FormulaTree). Gathered junction us ids fs next_of_all) (ap (map instance_next) (all-after-none (all_tuples p w e ss b f))) (gather-begun junction us ids next_of_all k)
+  pub instances-begun : (junction : Junction) (us : List FormulaTree) (ids : List ℕ) → ids ≡ [] →
+      Gathered junction us ids (next_after None) next_of_all
+  instances-begun junction us ids k = subst (λ (fs : List FormulaTree). Gathered junction us ids fs next_of_all)
+      (ap (map instance_next) (all-after-none (all_tuples p w e ss b f))) (gather-begun junction us ids next_of_all k)
 
   pub quantified-next : (junction : Junction) → simplified_join junction next_of_all ≡ residual p w e (quantified junction ss b f)
   unfolding simplified_join progressed
   quantified-next All = refl
   quantified-next Any = refl
 
-  pub next-caused : (junction : Junction) (t : List Value) (x : EvalFault) → Among t (all_tuples p w e ss b f) → IsCausedBy (looked_for_residual p w (bind ss t e) f) x → IsCausedBy (looked_for_residual p w e (quantified junction ss b f)) x
+  pub next-caused : (junction : Junction) (t : List Value) (x : EvalFault) → Among t (all_tuples p w e ss b f) →
+      IsCausedBy (looked_for_residual p w (bind ss t e) f) x → IsCausedBy (looked_for_residual p w e (quantified junction ss b f)) x
   next-caused junction t (fault.Range m) is h = (quantified-looked p w e ss b f junction false (looks_of p w) t _ is h.0, h.1)
   next-caused junction t fault.NoMemory is h = tt

@@ -17,7 +17,8 @@ use Rattle.tl_progress.specs.Quantifiers.{vars_in, bound_in, Stands}
 use Rattle.tl_progress.proofs.TruthLayers.{shown-ForAll, shown-Exists}
 
 -- no other node is a quantifier
-none : (ts : List FormulaTree) (k : ℕ) (n : Node) → fits k n ≡ true → ((ss : List Var) (b : Bound) (i : ℕ) → n ≡ node.ForAll ss b i → ⊥) → ((ss : List Var) (b : Bound) (i : ℕ) → n ≡ node.Exists ss b i → ⊥)
+none : (ts : List FormulaTree) (k : ℕ) (n : Node) → fits k n ≡ true → ((ss : List Var) (b : Bound) (i : ℕ) → n ≡ node.ForAll ss b i → ⊥) →
+    ((ss : List Var) (b : Bound) (i : ℕ) → n ≡ node.Exists ss b i → ⊥)
     → (junction : Junction) (ss : List Var) (b : Bound) (f : FormulaTree) → tree_of_node ts n ≡ quantified junction ss b f → ⊥
 unfolding fits tree_of_node
 none ts k (node.ForAll vs c i) w x y junction ss b f e = x vs c i refl
@@ -40,12 +41,18 @@ module _ (ts : List FormulaTree) (at : ℕ) (a : Node) (is : slice_get ts at ≡
   pub bound-Exists : (ss : List Var) (b : Bound) (i : ℕ) → a ≡ node.Exists ss b i → bound_in (tree_at ts at) ≡ b
   bound-Exists ss b i e = ap bound_in (shown-Exists ts at a is ss b i e)
 
-  pub stands-ForAll : (ss : List Var) (b : Bound) (i : ℕ) → a ≡ node.ForAll ss b i → Stands ts (record { junction = All; at = at; part = i })
-  stands-ForAll ss b i e = shown-ForAll ts at a is ss b i e ∙ ap₂ (λ vs c. quantified All vs c (tree_at ts i)) (sym (vars-ForAll ss b i e)) (sym (bound-ForAll ss b i e))
+  pub stands-ForAll : (ss : List Var) (b : Bound) (i : ℕ) → a ≡ node.ForAll ss b i →
+      Stands ts (record { junction = All; at = at; part = i })
+  stands-ForAll ss b i e = shown-ForAll ts at a is ss b i e ∙ ap₂ (λ vs c. quantified All vs c (tree_at ts i)) (sym (vars-ForAll ss b i e))
+      (sym (bound-ForAll ss b i e))
 
-  pub stands-Exists : (ss : List Var) (b : Bound) (i : ℕ) → a ≡ node.Exists ss b i → Stands ts (record { junction = Any; at = at; part = i })
-  stands-Exists ss b i e = shown-Exists ts at a is ss b i e ∙ ap₂ (λ vs c. quantified Any vs c (tree_at ts i)) (sym (vars-Exists ss b i e)) (sym (bound-Exists ss b i e))
+  pub stands-Exists : (ss : List Var) (b : Bound) (i : ℕ) → a ≡ node.Exists ss b i →
+      Stands ts (record { junction = Any; at = at; part = i })
+  stands-Exists ss b i e = shown-Exists ts at a is ss b i e ∙ ap₂ (λ vs c. quantified Any vs c (tree_at ts i)) (sym (vars-Exists ss b i e))
+      (sym (bound-Exists ss b i e))
 
-  pub no-quantifier : fits at a ≡ true → ((ss : List Var) (b : Bound) (i : ℕ) → a ≡ node.ForAll ss b i → ⊥) → ((ss : List Var) (b : Bound) (i : ℕ) → a ≡ node.Exists ss b i → ⊥) → (q : Quantifier) → q.at ≡ at → Stands ts q → ⊥
+  pub no-quantifier : fits at a ≡ true → ((ss : List Var) (b : Bound) (i : ℕ) → a ≡ node.ForAll ss b i → ⊥) →
+      ((ss : List Var) (b : Bound) (i : ℕ) → a ≡ node.Exists ss b i → ⊥) → (q : Quantifier) → q.at ≡ at → Stands ts q → ⊥
   no-quantifier w x y q k h =
-      none ts at a w x y q.junction (vars_in (tree_at ts q.at)) (bound_in (tree_at ts q.at)) (tree_at ts q.part) (sym (at-is ts at (tree_of_node ts a) is) ∙ (ap (tree_at ts) (sym k) ∙ h))
+      none ts at a w x y q.junction (vars_in (tree_at ts q.at)) (bound_in (tree_at ts q.at)) (tree_at ts q.part)
+      (sym (at-is ts at (tree_of_node ts a) is) ∙ (ap (tree_at ts) (sym k) ∙ h))

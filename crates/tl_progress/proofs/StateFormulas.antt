@@ -5,7 +5,9 @@ use Rattle.std.specs.List.{list_any, list_all}
 use Rattle.tl_syntax.specs.declared.value.Value.{Value}
 use Rattle.tl_syntax.specs.Assignment.{Assignment, bind}
 use Rattle.tl_syntax.specs.StateFormulas.{IsState, AreState}
-use Rattle.tl_syntax.specs.Trees.{FormulaTree, FormulaTrees, verum, falsum, atom, defined, compare, goal_fact, goal_place, goal_not, negation, conjunction, disjunction, for_all, for_some, next, always, eventually, until, within, during, no_formula, more_formulas}
+use Rattle.tl_syntax.specs.Trees.{FormulaTree, FormulaTrees, verum, falsum, atom, defined, compare, goal_fact, goal_place, goal_not}
+use Rattle.tl_syntax.specs.Trees.{negation, conjunction, disjunction, for_all, for_some, next, always, eventually, until, within, during}
+use Rattle.tl_syntax.specs.Trees.{no_formula, more_formulas}
 use Rattle.tl_terms.specs.Bounds.{tuples}
 use Rattle.tl_terms.specs.Definitions.{situation_of}
 use Rattle.tl_terms.specs.Idle.{idle_true, idle_all, idle_one}
@@ -35,8 +37,10 @@ module _ (s : Situation) where
     state-idle e (negation f) h = ap not (state-idle e f h)
     state-idle e (conjunction fs) h = all-idle e fs h
     state-idle e (disjunction fs) h = one-idle e fs h
-    state-idle e (for_all ss b f) h = ap (λ (test : List Value → Bool). list_all test (tuples s e ss b)) (fun_ext (λ t. state-idle (bind ss t e) f h))
-    state-idle e (for_some ss b f) h = ap (λ (test : List Value → Bool). list_any test (tuples s e ss b)) (fun_ext (λ t. state-idle (bind ss t e) f h))
+    state-idle e (for_all ss b f) h = ap (λ (test : List Value → Bool). list_all test (tuples s e ss b))
+        (fun_ext (λ t. state-idle (bind ss t e) f h))
+    state-idle e (for_some ss b f) h = ap (λ (test : List Value → Bool). list_any test (tuples s e ss b))
+        (fun_ext (λ t. state-idle (bind ss t e) f h))
     state-idle e (next f) h = absurd h
     state-idle e (always f) h = absurd h
     state-idle e (eventually f) h = absurd h
@@ -68,8 +72,10 @@ module _ (d : LookedTable) (bs : List Situation) (s : Situation) where
     state-looked e (negation f) h = state-looked e f h
     state-looked e (conjunction fs) h = all-looked e fs h
     state-looked e (disjunction fs) h = all-looked e fs h
-    state-looked e (for_all ss b f) h = ap (λ (look : List Value → List Operation). flat_map look (flat_map (λ q. tuples q e ss b) bs)) (fun_ext (λ t. state-looked (bind ss t e) f h))
-    state-looked e (for_some ss b f) h = ap (λ (look : List Value → List Operation). flat_map look (flat_map (λ q. tuples q e ss b) bs)) (fun_ext (λ t. state-looked (bind ss t e) f h))
+    state-looked e (for_all ss b f) h = ap (λ (look : List Value → List Operation). flat_map look (flat_map (λ q. tuples q e ss b) bs))
+        (fun_ext (λ t. state-looked (bind ss t e) f h))
+    state-looked e (for_some ss b f) h = ap (λ (look : List Value → List Operation). flat_map look (flat_map (λ q. tuples q e ss b) bs))
+        (fun_ext (λ t. state-looked (bind ss t e) f h))
     state-looked e (next f) h = absurd h
     state-looked e (always f) h = absurd h
     state-looked e (eventually f) h = absurd h
@@ -82,8 +88,10 @@ module _ (d : LookedTable) (bs : List Situation) (s : Situation) where
     all-looked e (more_formulas f fs) h = ap₂ (λ (a b : List Operation). a ++ b) (state-looked e f h.0) (all-looked e fs h.1)
 
 -- a formula without temporal words leaves the constant of its truth, and the idling check looks at what progression does
-pub constant-next : (p : PlainProblem) (w : World) (e : Assignment) (f : FormulaTree) (b : Bool) → IsState f → b ≡ idly_true p w e f → constant b ≡ residual p w e f
+pub constant-next : (p : PlainProblem) (w : World) (e : Assignment) (f : FormulaTree) (b : Bool) → IsState f → b ≡ idly_true p w e f →
+    constant b ≡ residual p w e f
 constant-next p w e f b h k = ap constant (k ∙ state-idle (situation_of p w) e f h) ∙ sym (progressed-state (situation_of p w) e f h)
 
-pub looked-same : (p : PlainProblem) (w : World) (e : Assignment) (f : FormulaTree) → IsState f → looked_idly p w e f ≡ looked_for_residual p w e f
+pub looked-same : (p : PlainProblem) (w : World) (e : Assignment) (f : FormulaTree) → IsState f → looked_idly p w e f ≡
+    looked_for_residual p w e f
 looked-same p w e f h = state-looked (looks_of p w) (situation_of p w ∷ []) (situation_of p w) e f h

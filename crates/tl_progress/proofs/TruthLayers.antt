@@ -1,5 +1,6 @@
 -- The truth of a node where a world is repeated, from that of its parts.
-use Rattle.std.proofs.Common.{◌≡◌, ◌<◌, ℕ, List, [], ◌∷◌, map, Bool, true, false, true≢false, not, ◌&&◌, ◌||◌, Some, slice_get, refl, sym, ap, ◌∙◌, subst}
+use Rattle.std.proofs.Common.{◌≡◌, ◌<◌, ℕ, List, [], ◌∷◌, map, Bool, true, false, true≢false, not, ◌&&◌, ◌||◌, Some, slice_get, refl, sym}
+use Rattle.std.proofs.Common.{ap, ◌∙◌, subst}
 use Rattle.std.specs.List.{list_any, list_all}
 use borrow.Author.Tests.{ltb-true}
 use Rattle.tl_nodes.specs.declared.node.Node.{Node}
@@ -72,11 +73,14 @@ module _ (ts : List FormulaTree) (at : ℕ) (a : Node) (is : slice_get ts at ≡
     unfolding tree_of_node idle_true
     idle-False k = sym (ap (idly_true p w e) (shown node.False k))
 
-    pub idle-Basic : fits at a ≡ true → (f : Formula) → a ≡ node.Basic f → state_true (situation_of p w) e (tree_of_formula f) ≡ idly_true p w e (tree_at ts at)
+    pub idle-Basic : fits at a ≡ true → (f : Formula) → a ≡ node.Basic f → state_true (situation_of p w) e (tree_of_formula f) ≡
+        idly_true p w e (tree_at ts at)
     idle-Basic h f k = sym (ap (idly_true p w e) (shown-Basic f k) ∙ basic-idle (situation_of p w) e (tree_of_formula f) (basic-in h f k))
 
-    pub looked-Basic : fits at a ≡ true → (f : Formula) → a ≡ node.Basic f → looked_in_state (looks_of p w) (situation_of p w) e (tree_of_formula f) ≡ looked_idly p w e (tree_at ts at)
-    looked-Basic h f k = basic-looked true (looks_of p w) (situation_of p w ∷ []) (situation_of p w) e (tree_of_formula f) (basic-in h f k) ∙ sym (ap (looked_idly p w e) (shown-Basic f k))
+    pub looked-Basic : fits at a ≡ true → (f : Formula) → a ≡ node.Basic f →
+        looked_in_state (looks_of p w) (situation_of p w) e (tree_of_formula f) ≡ looked_idly p w e (tree_at ts at)
+    looked-Basic h f k = basic-looked true (looks_of p w) (situation_of p w ∷ []) (situation_of p w) e (tree_of_formula f)
+        (basic-in h f k) ∙ sym (ap (looked_idly p w e) (shown-Basic f k))
 
     pub idle-Not : (i : ℕ) (b : Bool) → a ≡ node.Not i → b ≡ idly_true p w e (tree_at ts i) → not b ≡ idly_true p w e (tree_at ts at)
     unfolding tree_of_node idle_true
@@ -109,18 +113,21 @@ module _ (ts : List FormulaTree) (at : ℕ) (a : Node) (is : slice_get ts at ≡
 -- ---- joins
 
 module _ (ts : List FormulaTree) (p : PlainProblem) (w : World) (e : Assignment) where
-  all-idle : (ids : List ℕ) → idle_all (situation_of p w) e (formulas_of_list (map (tree_at ts) ids)) ≡ list_all (λ k. idly_true p w e (tree_at ts k)) ids
+  all-idle : (ids : List ℕ) → idle_all (situation_of p w) e (formulas_of_list (map (tree_at ts) ids)) ≡
+      list_all (λ k. idly_true p w e (tree_at ts k)) ids
   unfolding idle_true
   all-idle [] = refl
   all-idle (i ∷ ids) = ap (λ b. idly_true p w e (tree_at ts i) && b) (all-idle ids)
 
-  one-idle : (ids : List ℕ) → idle_one (situation_of p w) e (formulas_of_list (map (tree_at ts) ids)) ≡ list_any (λ k. idly_true p w e (tree_at ts k)) ids
+  one-idle : (ids : List ℕ) → idle_one (situation_of p w) e (formulas_of_list (map (tree_at ts) ids)) ≡
+      list_any (λ k. idly_true p w e (tree_at ts k)) ids
   unfolding idle_true
   one-idle [] = refl
   one-idle (i ∷ ids) = ap (λ b. idly_true p w e (tree_at ts i) || b) (one-idle ids)
 
   -- the truth of a join is decided by that of its parts
-  pub idle-join : (junction : Junction) (stop : Bool) → stop ≡ deciding_truth junction → (ids : List ℕ) → decided stop (λ k. idly_true p w e (tree_at ts k)) ids ≡ idly_true p w e (tree_of_node ts (join_node junction ids))
+  pub idle-join : (junction : Junction) (stop : Bool) → stop ≡ deciding_truth junction → (ids : List ℕ) →
+      decided stop (λ k. idly_true p w e (tree_at ts k)) ids ≡ idly_true p w e (tree_of_node ts (join_node junction ids))
   unfolding tree_of_node idle_true
   idle-join Any stop h ids = ap (λ b. decided b (λ k. idly_true p w e (tree_at ts k)) ids) h ∙ sym (one-idle ids)
   idle-join All stop h ids = ap (λ b. decided b (λ k. idly_true p w e (tree_at ts k)) ids) h ∙ sym (all-idle ids)

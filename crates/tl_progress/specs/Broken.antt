@@ -26,7 +26,8 @@ AreChanged w v dels adds = v.facts ≡ with_all (without_all w.facts (map fact_k
 
 -- in each world after the changes the formula leaves the constant of this truth
 abbrev pub LeavesTruth : Bool → FormulaTree → List Fact → List Fact → Type 0
-LeavesTruth b f dels adds = (p : PlainProblem) (w v : World) → AreChanged w v dels adds → progressed (situation_of p v) no_values f ≡ constant b
+LeavesTruth b f dels adds = (p : PlainProblem) (w v : World) → AreChanged w v dels adds → progressed (situation_of p v) no_values f ≡
+    constant b
 
 -- in each world after these changes
 abbrev pub LeavesAfter : Bool → FormulaTree → FactChanges → Type 0
@@ -34,7 +35,8 @@ LeavesAfter b f changes = LeavesTruth b f changes.dels.now changes.adds.now
 
 -- one of the conjunction's parts leaves FALSE
 abbrev pub OneLeavesFalse : Conjunction → FactChanges → Type 0
-OneLeavesFalse conjunction changes = (q : ℕ) × Among q conjunction.parts.now × LeavesAfter false (tree_at (trees conjunction.nodes.now) q) changes
+OneLeavesFalse conjunction changes = (q : ℕ) × Among q conjunction.parts.now ×
+    LeavesAfter false (tree_at (trees conjunction.nodes.now) q) changes
 
 -- the term is the value itself
 abbrev pub is_value_term : TermTree → Value → Bool

@@ -65,7 +65,8 @@ state_true_in task w frame f = state_true (situation_of (plain_problem task.prob
 
 -- what is looked at for it
 abbrev pub looked_in_world : Task → World → List (Option Value) → FormulaTree → List Operation
-looked_in_world task w frame f = looked_in_state (looks_of (plain_problem task.problem) w) (situation_of (plain_problem task.problem) w) (assignment_in frame) f
+looked_in_world task w frame f = looked_in_state (looks_of (plain_problem task.problem) w) (situation_of (plain_problem task.problem) w)
+    (assignment_in frame) f
 
 -- truth of a number's tree where the world is repeated for ever, under the values of the frame
 abbrev pub idly_true_at : Task → World → List (Option Value) → Nodes → ℕ → Bool
@@ -81,11 +82,13 @@ join_at nodes junction ids = tree_of_node (trees nodes) (join_node junction ids)
 
 -- its truth
 abbrev pub idly_true_join : Task → World → List (Option Value) → Nodes → Junction → List ℕ → Bool
-idly_true_join task w frame nodes junction ids = idly_true (plain_problem task.problem) w (assignment_in frame) (tree_of_node (trees nodes) (join_node junction ids))
+idly_true_join task w frame nodes junction ids = idly_true (plain_problem task.problem) w (assignment_in frame)
+    (tree_of_node (trees nodes) (join_node junction ids))
 
 -- what is looked at for it
 abbrev pub looked_idly_join : Task → World → List (Option Value) → Nodes → Junction → List ℕ → List Operation
-looked_idly_join task w frame nodes junction ids = looked_idly (plain_problem task.problem) w (assignment_in frame) (tree_of_node (trees nodes) (join_node junction ids))
+looked_idly_join task w frame nodes junction ids = looked_idly (plain_problem task.problem) w (assignment_in frame)
+    (tree_of_node (trees nodes) (join_node junction ids))
 
 -- the quantified formula over the number's tree
 abbrev pub quantified_at : Nodes → Junction → List Var → Bound → ℕ → FormulaTree
@@ -93,11 +96,13 @@ quantified_at nodes junction ss b i = quantified junction ss b (tree_at (trees n
 
 -- its truth
 abbrev pub idly_true_over : Task → World → List (Option Value) → Nodes → Junction → List Var → Bound → ℕ → Bool
-idly_true_over task w frame nodes junction ss b i = idly_true (plain_problem task.problem) w (assignment_in frame) (quantified junction ss b (tree_at (trees nodes) i))
+idly_true_over task w frame nodes junction ss b i = idly_true (plain_problem task.problem) w (assignment_in frame)
+    (quantified junction ss b (tree_at (trees nodes) i))
 
 -- what is looked at for it
 abbrev pub looked_idly_over : Task → World → List (Option Value) → Nodes → Junction → List Var → Bound → ℕ → List Operation
-looked_idly_over task w frame nodes junction ss b i = looked_idly (plain_problem task.problem) w (assignment_in frame) (quantified junction ss b (tree_at (trees nodes) i))
+looked_idly_over task w frame nodes junction ss b i = looked_idly (plain_problem task.problem) w (assignment_in frame)
+    (quantified junction ss b (tree_at (trees nodes) i))
 
 -- what has to hold next for a number's tree, under the values of the frame
 abbrev pub residual_at : Task → World → List (Option Value) → Nodes → ℕ → FormulaTree
@@ -105,19 +110,23 @@ residual_at task w frame nodes i = residual (plain_problem task.problem) w (assi
 
 -- what is looked at for it
 abbrev pub looked_for_residual_at : Task → World → List (Option Value) → Nodes → ℕ → List Operation
-looked_for_residual_at task w frame nodes i = looked_for_residual (plain_problem task.problem) w (assignment_in frame) (tree_at (trees nodes) i)
+looked_for_residual_at task w frame nodes i = looked_for_residual (plain_problem task.problem) w (assignment_in frame)
+    (tree_at (trees nodes) i)
 
 -- the join of what has to hold next for the parts
 abbrev pub join_of_residuals : Task → World → List (Option Value) → Nodes → Joined → List ℕ → FormulaTree
-join_of_residuals task w frame nodes joined parts = simplified_join joined.junction (map (residual (plain_problem task.problem) w (assignment_in frame)) (trees_at (trees nodes) parts))
+join_of_residuals task w frame nodes joined parts = simplified_join joined.junction
+    (map (residual (plain_problem task.problem) w (assignment_in frame)) (trees_at (trees nodes) parts))
 
 -- what has to hold next for the join is the constant that decides it
 abbrev pub IsDecided : Task → World → List (Option Value) → Nodes → Joined → Type 0
-IsDecided task w frame nodes joined = residual (plain_problem task.problem) w (assignment_in frame) (tree_at (trees nodes) joined.at) ≡ constant (deciding_truth joined.junction)
+IsDecided task w frame nodes joined = residual (plain_problem task.problem) w (assignment_in frame) (tree_at (trees nodes) joined.at) ≡
+    constant (deciding_truth joined.junction)
 
 -- these are parts of the join, and what has to hold next for it is the join of that for them
 abbrev pub AreOpenIn : Task → World → List (Option Value) → Nodes → Joined → List ℕ → Type 0
-AreOpenIn task w frame nodes joined parts = AreOpen (plain_problem task.problem) w (assignment_in frame) (trees nodes) joined.at joined.junction parts
+AreOpenIn task w frame nodes joined parts = AreOpen (plain_problem task.problem) w (assignment_in frame)
+    (trees nodes) joined.at joined.junction parts
 
 -- a sentence holds where the world is repeated for ever
 abbrev pub HoldsIdly : Task → World → FormulaTree → Type 0
@@ -139,7 +148,8 @@ looked_by_progressing_at task w nodes i = looked_by_progressing (plain_problem t
 -- after it, and on each infinite sequence of worlds it fails just where the other's does
 pub record IsProgression (task : Task) (w : World) (old : Nodes) (i : ℕ) (new : Nodes) (n : ℕ) : Type 0 where
   pub holds : (r : Run) (k : ℕ) → state_at r k ≡ w
-      → Satisfies (plain_problem task.problem) r k (tree_at (trees old) i) ↔ Satisfies (plain_problem task.problem) r (suc k) (tree_at (trees new) n)
+      → Satisfies (plain_problem task.problem) r k (tree_at (trees old) i) ↔
+      Satisfies (plain_problem task.problem) r (suc k) (tree_at (trees new) n)
   pub fails : (s : Worlds) (k : ℕ) → s k ≡ w
       → (SatisfiesAlong (plain_problem task.problem) s k (tree_at (trees old) i) → ⊥)
       ↔ (SatisfiesAlong (plain_problem task.problem) s (suc k) (tree_at (trees new) n) → ⊥)
@@ -147,7 +157,8 @@ pub record IsProgression (task : Task) (w : World) (old : Nodes) (i : ℕ) (new 
 -- where the task names all that the world and the one number's tree have, it names all that the
 -- other's has
 abbrev pub StaysNamed : Task → World → Nodes → ℕ → Nodes → ℕ → Type 0
-StaysNamed task w old i new n = WorldIsNamed (length task.problem.names) w → IsNamed (length task.problem.names) (tree_at (trees old) i) → IsNamed (length task.problem.names) (tree_at (trees new) n)
+StaysNamed task w old i new n = WorldIsNamed (length task.problem.names) w → IsNamed (length task.problem.names) (tree_at (trees old) i) →
+    IsNamed (length task.problem.names) (tree_at (trees new) n)
 
 -- no tree is added
 abbrev pub AddsNoTree : Nodes → Nodes → Type 0

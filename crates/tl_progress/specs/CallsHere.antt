@@ -22,7 +22,10 @@ use Rattle.tl_progress.specs.declared.layers.Quantified.{Quantified}
 use Rattle.tl_progress.specs.declared.quantifier.Quantifier.{Quantifier}
 use Rattle.tl_progress.specs.declared.residuals.Residuals.{Residuals}
 use Rattle.tl_eval.specs.Faults.{IsCausedBy}
-use Rattle.tl_progress.specs.Calls.{IsDecided, AreOpenIn, KeepsRightly, join_of_residuals, FitsTask, IsSentenceIn, AreTruthsIn, AreResidualsIn, IsRightIn, state_true_in, looked_in_world, idly_true_at, looked_idly_at, join_at, idly_true_join, looked_idly_join, quantified_at, idly_true_over, looked_idly_over, residual_at, looked_for_residual_at}
+use Rattle.tl_progress.specs.Calls.{IsDecided, AreOpenIn, KeepsRightly, join_of_residuals, FitsTask, IsSentenceIn, AreTruthsIn}
+use Rattle.tl_progress.specs.Calls.{AreResidualsIn, IsRightIn, state_true_in, looked_in_world, idly_true_at, looked_idly_at, join_at}
+use Rattle.tl_progress.specs.Calls.{idly_true_join, looked_idly_join, quantified_at, idly_true_over, looked_idly_over, residual_at}
+use Rattle.tl_progress.specs.Calls.{looked_for_residual_at}
 use Rattle.tl_progress.specs.Quantifiers.{ReadsAt}
 use Rattle.tl_syntax.specs.declared.value.Value.{Value}
 use Rattle.tl_syntax.specs.Trees.{FormulaTree}
@@ -115,27 +118,33 @@ IsStateFault here frame f result = IfErr result (IsCausedBy (looked_in_world her
 
 -- it is the truth of a number's tree where the world is repeated for ever
 abbrev pub IsTruthAt : FormulasHere → List (Option Value) → ℕ → Result Bool EvalFault → Type 0
-IsTruthAt formulas frame i result = IfOk result (λ b. b ≡ idly_true_at formulas.here.now.task.now formulas.here.now.world.now frame formulas.nodes.now i)
+IsTruthAt formulas frame i result = IfOk result (λ b. b ≡ idly_true_at formulas.here.now.task.now formulas.here.now.world.now frame
+    formulas.nodes.now i)
 
 -- or a fault of what is looked at for it
 abbrev pub IsTruthFault : FormulasHere → List (Option Value) → ℕ → Result Bool EvalFault → Type 0
-IsTruthFault formulas frame i result = IfErr result (IsCausedBy (looked_idly_at formulas.here.now.task.now formulas.here.now.world.now frame formulas.nodes.now i))
+IsTruthFault formulas frame i result = IfErr result (IsCausedBy (looked_idly_at formulas.here.now.task.now formulas.here.now.world.now frame
+    formulas.nodes.now i))
 
 -- it is the truth of a join
 abbrev pub IsJoinTruth : FormulasHere → List (Option Value) → Join → Result Bool EvalFault → Type 0
-IsJoinTruth formulas frame join result = IfOk result (λ b. b ≡ idly_true_join formulas.here.now.task.now formulas.here.now.world.now frame formulas.nodes.now join.junction join.parts.now)
+IsJoinTruth formulas frame join result = IfOk result (λ b. b ≡ idly_true_join formulas.here.now.task.now formulas.here.now.world.now frame
+    formulas.nodes.now join.junction join.parts.now)
 
 -- or a fault of what is looked at for it
 abbrev pub IsJoinFault : FormulasHere → List (Option Value) → Join → Result Bool EvalFault → Type 0
-IsJoinFault formulas frame join result = IfErr result (IsCausedBy (looked_idly_join formulas.here.now.task.now formulas.here.now.world.now frame formulas.nodes.now join.junction join.parts.now))
+IsJoinFault formulas frame join result = IfErr result (IsCausedBy (looked_idly_join formulas.here.now.task.now formulas.here.now.world.now
+    frame formulas.nodes.now join.junction join.parts.now))
 
 -- it is the truth of a quantified formula
 abbrev pub IsQuantifiedTruth : FormulasHere → List (Option Value) → Quantified → Result Bool EvalFault → Type 0
-IsQuantifiedTruth formulas frame q result = IfOk result (λ b. b ≡ idly_true_over formulas.here.now.task.now formulas.here.now.world.now frame formulas.nodes.now q.junction q.vars.now q.bound.now q.part)
+IsQuantifiedTruth formulas frame q result = IfOk result (λ b. b ≡ idly_true_over formulas.here.now.task.now formulas.here.now.world.now
+    frame formulas.nodes.now q.junction q.vars.now q.bound.now q.part)
 
 -- or a fault of what is looked at for it
 abbrev pub IsQuantifiedFault : FormulasHere → List (Option Value) → Quantified → Result Bool EvalFault → Type 0
-IsQuantifiedFault formulas frame q result = IfErr result (IsCausedBy (looked_idly_over formulas.here.now.task.now formulas.here.now.world.now frame formulas.nodes.now q.junction q.vars.now q.bound.now q.part))
+IsQuantifiedFault formulas frame q result = IfErr result (IsCausedBy (looked_idly_over formulas.here.now.task.now
+    formulas.here.now.world.now frame formulas.nodes.now q.junction q.vars.now q.bound.now q.part))
 
 -- the tuples are those of a quantified formula, under the values of the frame
 abbrev pub ReadsQuantified : Here → Quantified → List (Option Value) → Reading → Type 0
@@ -147,7 +156,8 @@ ReadsInstances here nodes q frame r = ReadsAt here.task.now here.world.now nodes
 
 -- what has to hold next for a number's tree is the constant of this truth
 abbrev pub IsNextConstant : FormulasHere → List (Option Value) → ℕ → Result Bool EvalFault → Type 0
-IsNextConstant formulas frame i result = IfOk result (λ b. residual_at formulas.here.now.task.now formulas.here.now.world.now frame formulas.nodes.now i ≡ constant b)
+IsNextConstant formulas frame i result = IfOk result (λ b. residual_at formulas.here.now.task.now formulas.here.now.world.now frame
+    formulas.nodes.now i ≡ constant b)
 
 -- it is the number of what has to hold next for a number's tree
 abbrev pub IsResidual : Here → List (Option Value) → Nodes → ℕ → Nodes → Result ℕ EvalFault → Type 0
@@ -159,24 +169,30 @@ IsResidualFault here frame nodes i result = IfErr result (IsCausedBy (looked_for
 
 -- it is the number of what has to hold next, and no node is added for it
 abbrev pub IsKnownResidual : FormulasHere → List (Option Value) → ℕ → Result ℕ EvalFault → Type 0
-IsKnownResidual formulas frame i result = IfOk result (λ n. Denotes formulas.nodes.now n (residual_at formulas.here.now.task.now formulas.here.now.world.now frame formulas.nodes.now i))
+IsKnownResidual formulas frame i result = IfOk result (λ n. Denotes formulas.nodes.now n
+    (residual_at formulas.here.now.task.now formulas.here.now.world.now frame formulas.nodes.now i))
 
 -- or a fault of what is looked at for it
 abbrev pub IsNextFault : {A : Type 0} → FormulasHere → List (Option Value) → ℕ → Result A EvalFault → Type 0
-IsNextFault formulas frame i result = IfErr result (IsCausedBy (looked_for_residual_at formulas.here.now.task.now formulas.here.now.world.now frame formulas.nodes.now i))
+IsNextFault formulas frame i result = IfErr result (IsCausedBy (looked_for_residual_at formulas.here.now.task.now
+    formulas.here.now.world.now frame formulas.nodes.now i))
 
 -- it is that number, where one was found
 abbrev pub IsEarlyResidual : FormulasHere → List (Option Value) → ℕ → Result (Option ℕ) EvalFault → Type 0
-IsEarlyResidual formulas frame i result = IfOk result (λ o. IfSome o (λ n. Denotes formulas.nodes.now n (residual_at formulas.here.now.task.now formulas.here.now.world.now frame formulas.nodes.now i)))
+IsEarlyResidual formulas frame i result = IfOk result (λ o. IfSome o (λ n.
+    Denotes formulas.nodes.now n (residual_at formulas.here.now.task.now formulas.here.now.world.now frame formulas.nodes.now i)))
 
 -- none is left where a part decides the join
 abbrev pub IsDecidedEarly : FormulasHere → List (Option Value) → Joined → Result (Option (List ℕ)) EvalFault → Type 0
-IsDecidedEarly formulas frame joined result = IfOk result (λ o. IfNone o (IsDecided formulas.here.now.task.now formulas.here.now.world.now frame formulas.nodes.now joined))
+IsDecidedEarly formulas frame joined result = IfOk result (λ o. IfNone o
+    (IsDecided formulas.here.now.task.now formulas.here.now.world.now frame formulas.nodes.now joined))
 
 -- else these are the parts with temporal words
 abbrev pub AreOpenParts : FormulasHere → List (Option Value) → Joined → Result (Option (List ℕ)) EvalFault → Type 0
-AreOpenParts formulas frame joined result = IfOk result (λ o. IfSome o (λ ids. AreOpenIn formulas.here.now.task.now formulas.here.now.world.now frame formulas.nodes.now joined ids))
+AreOpenParts formulas frame joined result = IfOk result (λ o. IfSome o
+    (λ ids. AreOpenIn formulas.here.now.task.now formulas.here.now.world.now frame formulas.nodes.now joined ids))
 
 -- it is the number of the join of what has to hold next for the parts
 abbrev pub IsOpenResidual : Here → List (Option Value) → Nodes → OpenParts → Nodes → Result ℕ EvalFault → Type 0
-IsOpenResidual here frame old o new result = IfOk result (λ n. Denotes new n (join_of_residuals here.task.now here.world.now frame old o.joined o.parts.now))
+IsOpenResidual here frame old o new result = IfOk result (λ n. Denotes new n
+    (join_of_residuals here.task.now here.world.now frame old o.joined o.parts.now))

@@ -19,4 +19,5 @@ pub record BindsBefore (n : ℕ) (frame : List (Option Value)) (bs : List Bindin
 
 -- none of the four slots from this one on has a value
 abbrev pub HaveNoValue : ℕ → List (Option Value) → Type 0
-HaveNoValue n frame = (assignment_in frame n ≡ None) × ((assignment_in frame (n + 1) ≡ None) × ((assignment_in frame (n + 2) ≡ None) × (assignment_in frame (n + 3) ≡ None)))
+HaveNoValue n frame = (assignment_in frame n ≡ None) × ((assignment_in frame (n + 1) ≡ None) ×
+    ((assignment_in frame (n + 2) ≡ None) × (assignment_in frame (n + 3) ≡ None)))

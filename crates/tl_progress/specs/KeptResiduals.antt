@@ -21,7 +21,8 @@ found_in r n k = number_for r.table (record { world = n; formula = k })
 -- the number is kept for the formula in its world, and what is kept there for other formulas is as
 -- before
 abbrev pub KeepsNumber : Residuals → Residuals → Incoming → ℕ → Type 0
-KeepsNumber old new incoming number = (k : ℕ) → found_in new incoming.world k ≡ cond (nat_eq incoming.formula k) (Some number) (found_in old incoming.world k)
+KeepsNumber old new incoming number = (k : ℕ) → found_in new incoming.world k ≡
+    cond (nat_eq incoming.formula k) (Some number) (found_in old incoming.world k)
 
 -- what is kept for the world is as before
 abbrev pub StaysThere : ℕ → Residuals → Residuals → Type 0
@@ -40,6 +41,7 @@ abbrev pub KeepsFewer : Residuals → Residuals → Type 0
 KeepsFewer old new = (n k i : ℕ) → found_in new n k ≡ Some i → found_in old n k ≡ Some i
 
 -- these are parts of the join, and what has to hold next for it is the join of that for them
-pub record AreOpen (p : PlainProblem) (w : World) (e : Assignment) (ts : List FormulaTree) (at : ℕ) (junction : Junction) (open_parts : List ℕ) : Type 0 where
+pub record AreOpen (p : PlainProblem) (w : World) (e : Assignment) (ts : List FormulaTree) (at : ℕ) (junction : Junction)
+    (open_parts : List ℕ) : Type 0 where
   pub below : Each (IsBelow false ts at) open_parts
   pub same : simplified_join junction (map (residual p w e) (trees_at ts open_parts)) ≡ residual p w e (tree_at ts at)

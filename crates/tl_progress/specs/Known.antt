@@ -15,7 +15,8 @@ AreTruths p w ts found = (k : ℕ) (b : Bool) → found k ≡ Some b → (k < le
 
 -- the numbers are those of what has to hold next for the numbers' trees
 abbrev pub AreResiduals : PlainProblem → World → List FormulaTree → (ℕ → Option ℕ) → Type 0
-AreResiduals p w ts found = (k i : ℕ) → found k ≡ Some i → (k < length ts) × ((e : Assignment) → slice_get ts i ≡ Some (residual p w e (tree_at ts k)))
+AreResiduals p w ts found = (k i : ℕ) → found k ≡ Some i → (k < length ts) ×
+    ((e : Assignment) → slice_get ts i ≡ Some (residual p w e (tree_at ts k)))
 
 -- what is known is right
 pub record IsRightlyKnown (p : PlainProblem) (w : World) (ts : List FormulaTree) (known : WorkedOut) : Type 0 where

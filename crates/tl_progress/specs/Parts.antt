@@ -46,7 +46,8 @@ pub record IsBelow (n : Bool) (ts : List FormulaTree) (id at : ℕ) : Type 0 whe
   pub under : at ≤ id
   pub fits : (g : Signature) (around : List ℕ) → Fits g around (tree_at ts id) → Fits g around (tree_at ts at)
   pub scope : (slots : List ℕ) → InScope slots (free_slots (tree_at ts id)) → InScope slots (free_slots (tree_at ts at))
-  pub looked : (d : LookedTable) (bs : List Situation) (s : Situation) (e : Assignment) (o : Operation) → Among o (looked_in_basics n d bs s e (tree_at ts at)) → Among o (looked_in_basics n d bs s e (tree_at ts id))
+  pub looked : (d : LookedTable) (bs : List Situation) (s : Situation) (e : Assignment) (o : Operation) →
+      Among o (looked_in_basics n d bs s e (tree_at ts at)) → Among o (looked_in_basics n d bs s e (tree_at ts id))
 
 -- the formulas of a list
 abbrev pub formulas_in : FormulaTrees → List FormulaTree
@@ -70,4 +71,5 @@ IsJoin junction f = f ≡ joined junction (formulas_of_list (join_parts f))
 -- the part is gathered: whatever parts follow, the join of the new ones is that of the old ones and
 -- the part
 abbrev pub GathersPart : Nodes → Junction → List ℕ → ℕ → List ℕ → Type 0
-GathersPart nodes junction old part new = (rest : List FormulaTree) → simplified_join junction (trees_at (trees nodes) new ++ rest) ≡ simplified_join junction (trees_at (trees nodes) old ++ tree_at (trees nodes) part ∷ rest)
+GathersPart nodes junction old part new = (rest : List FormulaTree) → simplified_join junction (trees_at (trees nodes) new ++ rest) ≡
+    simplified_join junction (trees_at (trees nodes) old ++ tree_at (trees nodes) part ∷ rest)

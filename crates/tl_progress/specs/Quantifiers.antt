@@ -64,7 +64,8 @@ StandsForBoundAt nodes q frame p = IsPatternOf (node_vars (trees nodes) q) (assi
 
 -- they are the tuples of the quantifier's bound in the task's world, under the values of the frame
 abbrev pub ReadsAt : Task → World → Nodes → Quantifier → List (Option Value) → Reading → Type 0
-ReadsAt task w nodes q frame r = ReadsBound (situation_of (plain_problem task.problem) w) (node_vars (trees nodes) q) (assignment_in frame) (node_bound (trees nodes) q) r
+ReadsAt task w nodes q frame r = ReadsBound (situation_of (plain_problem task.problem) w) (node_vars (trees nodes) q) (assignment_in frame)
+    (node_bound (trees nodes) q) r
 
 -- so it is of whatever frame the pattern is made
 abbrev pub ReadsPatternAt : Task → World → Nodes → Quantifier → Option Pattern → Reading → Type 0
@@ -76,7 +77,8 @@ IsReader ss r = (s : Situation) × (b : Bound) × (e : Assignment) × ReadsBound
 
 -- a step to the next instance: the tuples are gone on with, and the variables get the values of the
 -- one that is found
-pub record HasStepped (s : Situation) (ss : List Var) (b : Bound) (before after : Reading) (old new : List (Option Value)) (found : Bool) : Type 0 where
+pub record HasStepped (s : Situation) (ss : List Var) (b : Bound) (before after : Reading) (old new : List (Option Value))
+    (found : Bool) : Type 0 where
   pub reads : (e : Assignment) → ReadsBound s ss e b before → ReadsBound s ss e b after
   pub next : (e : Assignment) → ReadsBound s ss e b before → IsNext (length ss) (λ t. bound_true s (bind ss t e) b) before.tuple after.tuple
   pub put : found ≡ true → (t : List Value) × (after.tuple ≡ Some t) × (assignment_in new ≡ bind ss t (assignment_in old))
@@ -94,4 +96,5 @@ HasSteppedAt nodes q before after old new found = HasSteppedOver (node_vars (tre
 -- of whatever frame the variables' values were kept, where the old frame agrees with it elsewhere,
 -- it is the new one
 abbrev pub GivesBack : List Var → List (Option Value) → List (Option Value) → List (Option Value) → Type 0
-GivesBack ss kept old new = (frame : List (Option Value)) → AreKept ss frame kept → AgreeElsewhere ss (assignment_in old) (assignment_in frame) → new ≡ frame
+GivesBack ss kept old new = (frame : List (Option Value)) → AreKept ss frame kept →
+    AgreeElsewhere ss (assignment_in old) (assignment_in frame) → new ≡ frame

@@ -11,4 +11,5 @@ IsIdleTruth formulas frame i b = b ≡ idly_true_at formulas.here.now.task.now f
 
 -- this is the truth of a join
 abbrev pub IsIdleTruthOfJoin : FormulasHere → List (Option Value) → Join → Bool → Type 0
-IsIdleTruthOfJoin formulas frame join b = b ≡ idly_true_join formulas.here.now.task.now formulas.here.now.world.now frame formulas.nodes.now join.junction join.parts.now
+IsIdleTruthOfJoin formulas frame join b = b ≡ idly_true_join formulas.here.now.task.now formulas.here.now.world.now frame formulas.nodes.now
+    join.junction join.parts.now

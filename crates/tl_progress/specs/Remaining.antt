@@ -20,12 +20,15 @@ remaining_at nodes frame i = substituted (assignment_in frame) (tree_at (trees n
 
 -- the join of a part and of what remains of a number's tree
 abbrev pub with_remaining : Nodes → List (Option Value) → PartAndRest → FormulaTree
-with_remaining nodes frame b = simplified_join b.junction (tree_at (trees nodes) b.part ∷ substituted (assignment_in frame) (tree_at (trees nodes) b.at) ∷ [])
+with_remaining nodes frame b = simplified_join b.junction (tree_at (trees nodes) b.part ∷
+    substituted (assignment_in frame) (tree_at (trees nodes) b.at) ∷ [])
 
 -- what has to hold next for an `until`, from that for its second part and its first
 abbrev pub until_remaining : Nodes → List (Option Value) → UntilAnswers → FormulaTree
-until_remaining nodes frame u = simplified_join Any (tree_at (trees nodes) u.second ∷ simplified_join All (tree_at (trees nodes) u.first ∷ substituted (assignment_in frame) (tree_at (trees nodes) u.at) ∷ []) ∷ [])
+until_remaining nodes frame u = simplified_join Any (tree_at (trees nodes) u.second ∷
+    simplified_join All (tree_at (trees nodes) u.first ∷ substituted (assignment_in frame) (tree_at (trees nodes) u.at) ∷ []) ∷ [])
 
 -- what has to hold next for a formula that counts states, from that for its part
 abbrev pub steps_left_at : Nodes → List (Option Value) → StepsAnswer → FormulaTree
-steps_left_at nodes frame s = steps_left s.junction (assignment_in frame) s.steps (tree_at (trees nodes) s.answer) (tree_at (trees nodes) s.part)
+steps_left_at nodes frame s = steps_left s.junction (assignment_in frame) s.steps (tree_at (trees nodes) s.answer)
+    (tree_at (trees nodes) s.part)

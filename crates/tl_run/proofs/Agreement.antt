@@ -29,19 +29,24 @@ way_from_range Range done = tt
 way_from_range given done = absurd done
 
 -- each gives way to an operation past range, and this to each
-pub to_range : (c : Command) (status given : Status) (text lines : List ℕ) → IsDone status → given ≡ Range → Agrees c status text given lines
+pub to_range : (c : Command) (status given : Status) (text lines : List ℕ) → IsDone status → given ≡ Range →
+    Agrees c status text given lines
 to_range c status given text lines done is = inr (subst (GivesWay status) (sym is) (way_to_range status done))
 
-pub from_range : (c : Command) (status given : Status) (text lines : List ℕ) → status ≡ Range → IsDone given → Agrees c status text given lines
+pub from_range : (c : Command) (status given : Status) (text lines : List ℕ) → status ≡ Range → IsDone given →
+    Agrees c status text given lines
 from_range c status given text lines is done = inr (subst (λ (s : Status). GivesWay s given) (sym is) (way_from_range given done))
 
 -- statuses give way as those that they are
-pub gives_way : (c : Command) (status given a b : Status) (text lines : List ℕ) → status ≡ a → given ≡ b → GivesWay a b → Agrees c status text given lines
+pub gives_way : (c : Command) (status given a b : Status) (text lines : List ℕ) → status ≡ a → given ≡ b → GivesWay a b →
+    Agrees c status text given lines
 gives_way c status given a b text lines e f way =
     inr (subst (λ (s : Status). GivesWay s given) (sym e) (subst (GivesWay a) (sym f) way))
 
 -- the same thing is given, with the same lines
-pub same_given : {A : Type 0} (c : Command) (P Q : A → Type 0) (status_of : A → Status) (f g : A → List ℕ) (status given : Status) (text lines : List ℕ)
-    (h : Gives P status_of f status text) (k : Gives Q status_of g given lines) → k.what ≡ h.what → g h.what ≡ f h.what → Agrees c status text given lines
+pub same_given : {A : Type 0} (c : Command) (P Q : A → Type 0) (status_of : A → Status) (f g : A → List ℕ) (status given : Status)
+    (text lines : List ℕ)
+    (h : Gives P status_of f status text) (k : Gives Q status_of g given lines) → k.what ≡ h.what → g h.what ≡ f h.what →
+    Agrees c status text given lines
 same_given c P Q status_of f g status given text lines h k is same =
     inl (k.status_is ∙ ap status_of is ∙ sym h.status_is, inl (k.text_is ∙ ap g is ∙ same ∙ sym h.text_is))

@@ -1,8 +1,10 @@
 -- The calls of a store by which the files of a command are read in turn.
-use Rattle.std.proofs.Common.{◌≡◌, ℕ, zero, suc, ◌+◌, List, [], ◌∷◌, ◌++◌, map, take, Bool, true, false, refl, sym, ap, ◌∙◌, subst, arith, append_assoc}
+use Rattle.std.proofs.Common.{◌≡◌, ℕ, zero, suc, ◌+◌, List, [], ◌∷◌, ◌++◌, map, take, Bool, true, false, refl, sym, ap, ◌∙◌, subst, arith}
+use Rattle.std.proofs.Common.{append_assoc}
 use Rattle.std.specs.Prelude.{None, Some, Option, slice_get}
 use Rattle.std.proofs.lemmas.List.{append-nil, map-append}
-use Rattle.tl_outside.specs.Calls.{Call, begins, begin_fails, takes, take_fails, with_calls, begun_names, EndsByFault, IsTaken, IsRead, ReadsBy}
+use Rattle.tl_outside.specs.Calls.{Call, begins, begin_fails, takes, take_fails, with_calls, begun_names, EndsByFault, IsTaken, IsRead}
+use Rattle.tl_outside.specs.Calls.{ReadsBy}
 use Rattle.tl_run.specs.declared.words.Role.{Role}
 use Rattle.tl_run.specs.Commands.{Command, files_of}
 use Rattle.tl_run.specs.Turns.{BeginsFirst, CallsTold, first_names}
@@ -14,7 +16,8 @@ with_no_calls None = refl
 with_no_calls (Some all) = ap Some (append-nil all)
 
 -- calls, and then others
-with_calls_more : (told : Option (List Call)) (calls more : List Call) → with_calls (with_calls told calls) more ≡ with_calls told (calls ++ more)
+with_calls_more : (told : Option (List Call)) (calls more : List Call) → with_calls (with_calls told calls) more ≡
+    with_calls told (calls ++ more)
 with_calls_more None calls more = refl
 with_calls_more (Some all) calls more = ap Some (append_assoc all calls more)
 
@@ -27,7 +30,8 @@ names_append (takes n ∷ calls) more = names_append calls more
 names_append (take_fails ∷ calls) more = names_append calls more
 
 -- after calls of which none failed, others
-ends_append : (calls more : List Call) (failed : Bool) → EndsByFault calls false → EndsByFault more failed → EndsByFault (calls ++ more) failed
+ends_append : (calls more : List Call) (failed : Bool) → EndsByFault calls false → EndsByFault more failed →
+    EndsByFault (calls ++ more) failed
 ends_append [] more failed none ends = ends
 ends_append (begins name ∷ calls) more failed none ends = ends_append calls more failed none ends
 ends_append (takes n ∷ calls) more failed none ends = ends_append calls more failed none ends
@@ -50,7 +54,8 @@ taken_ends limit count (begins name ∷ calls) failed h = absurd h
 taken_ends limit count (begin_fails name ∷ calls) failed h = absurd h
 
 -- reading a file begins it alone
-read_names : (name : List ℕ) (limit : ℕ) (calls : List Call) (failed : Bool) → IsRead name limit calls failed → begun_names calls ≡ name ∷ []
+read_names : (name : List ℕ) (limit : ℕ) (calls : List Call) (failed : Bool) → IsRead name limit calls failed → begun_names calls ≡
+    name ∷ []
 read_names name limit [] failed h = absurd h
 read_names name limit (begins begun ∷ calls) failed h =
     ap (λ (n : List ℕ). n ∷ begun_names calls) h.0 ∙ ap (λ (names : List (List ℕ)). name ∷ names) (taken_names limit 0 calls failed h.1)
@@ -71,7 +76,8 @@ pub begins_none : (c : Command) (told : Option (List Call)) → BeginsFirst c (r
 begins_none c told = record { calls = []; came = sym (with_no_calls told); begun = refl; ends = refl }
 
 -- a command without files begins none
-pub begins_no_file : (c : Command) (told : Option (List Call)) (count : ℕ) → files_of c ≡ [] → BeginsFirst c (record { before = told; after = told }) count false
+pub begins_no_file : (c : Command) (told : Option (List Call)) (count : ℕ) → files_of c ≡ [] →
+    BeginsFirst c (record { before = told; after = told }) count false
 begins_no_file c told count none = record {
   calls = [];
   came = sym (with_no_calls told);
@@ -84,14 +90,18 @@ begins_no_file c told count none = record {
     no_names (suc count) = refl
 
 -- one file more
-pub begins_more : (c : Command) (before mid after : Option (List Call)) (i : ℕ) (f : Role × List ℕ) (limit : ℕ) (failed : Bool) → slice_get (files_of c) i ≡ Some f → BeginsFirst c (record { before = before; after = mid }) i false → ReadsBy mid after f.1 limit failed → BeginsFirst c (record { before = before; after = after }) (i + 1) failed
+pub begins_more : (c : Command) (before mid after : Option (List Call)) (i : ℕ) (f : Role × List ℕ) (limit : ℕ) (failed : Bool) →
+    slice_get (files_of c) i ≡ Some f → BeginsFirst c (record { before = before; after = mid }) i false →
+    ReadsBy mid after f.1 limit failed → BeginsFirst c (record { before = before; after = after }) (i + 1) failed
 begins_more c before mid after i f limit failed at known (calls, read, came) =
     let e : suc i ≡ i + 1 = omega arith in
     let names : first_names c (i + 1) ≡ first_names c i ++ f.1 ∷ [] =
-    ap (first_names c) (sym e) ∙ ap (map (λ (g : Role × List ℕ). g.1)) (next_taken (files_of c) i f at) ∙ map-append (λ (g : Role × List ℕ). g.1) (take i (files_of c)) (f ∷ []) in
+    ap (first_names c) (sym e) ∙ ap (map (λ (g : Role × List ℕ). g.1)) (next_taken (files_of c) i f at) ∙
+    map-append (λ (g : Role × List ℕ). g.1) (take i (files_of c)) (f ∷ []) in
     record {
       calls = known.calls ++ calls;
       came = came ∙ ap (λ (told : Option (List Call)). with_calls told calls) known.came ∙ with_calls_more before known.calls calls;
-      begun = names_append known.calls calls ∙ ap (λ (ns : List (List ℕ)). ns ++ begun_names calls) known.begun ∙ ap (λ (ns : List (List ℕ)). first_names c i ++ ns) (read_names f.1 limit calls failed read) ∙ sym names;
+      begun = names_append known.calls calls ∙ ap (λ (ns : List (List ℕ)). ns ++ begun_names calls) known.begun ∙
+          ap (λ (ns : List (List ℕ)). first_names c i ++ ns) (read_names f.1 limit calls failed read) ∙ sym names;
       ends = ends_append known.calls calls failed known.ends (read_ends f.1 limit calls failed read);
     }

@@ -27,16 +27,20 @@ use Rattle.tl_run.proofs.OneProblem.{SameProblem}
 use Rattle.tl_run.proofs.SameProofs.{same_none_text}
 
 -- of the proof of one problem, one verdict is right
-one_verdict : OneNoneVerdict → (p q : Problem) (proof other : Proof) (v w : NoneVerdict) → SameProblem p q → proof ≡ other → IsNoneVerdict (plain_problem p) proof v → IsNoneVerdict (plain_problem q) other w → w ≡ v
+one_verdict : OneNoneVerdict → (p q : Problem) (proof other : Proof) (v w : NoneVerdict) → SameProblem p q → proof ≡ other →
+    IsNoneVerdict (plain_problem p) proof v → IsNoneVerdict (plain_problem q) other w → w ≡ v
 one_verdict law p q proof other v w same e h k =
-    sym (law (plain_problem q) other v w (subst (λ (x : PlainProblem). IsNoneVerdict x other v) same.meaning (subst (λ (x : Proof). IsNoneVerdict (plain_problem p) x v) e h)) k)
+    sym (law (plain_problem q) other v w (subst (λ (x : PlainProblem). IsNoneVerdict x other v) same.meaning
+    (subst (λ (x : Proof). IsNoneVerdict (plain_problem p) x v) e h)) k)
 
 -- and it has one line
-one_line : (m n : Problem) (proof other : Proof) (v : NoneVerdict) → SameProblem m n → proof ≡ other → proof_verdict_text n.names n.domain.operators other.bound v ≡ proof_verdict_text m.names m.domain.operators proof.bound v
+one_line : (m n : Problem) (proof other : Proof) (v : NoneVerdict) → SameProblem m n → proof ≡ other →
+    proof_verdict_text n.names n.domain.operators other.bound v ≡ proof_verdict_text m.names m.domain.operators proof.bound v
 one_line m n proof other v same e =
     let names = sym same.names in
     let back = sym e in
-    (λ i. proof_verdict_text (names i) n.domain.operators (back i).bound v) ∙ same_none_text m.names n.domain.operators m.domain.operators (sym same.heads) proof.bound v
+    (λ i. proof_verdict_text (names i) n.domain.operators (back i).bound v) ∙
+    same_none_text m.names n.domain.operators m.domain.operators (sym same.heads) proof.bound v
 
 verdict_done : (v : NoneVerdict) → IsDone (none_status v)
 verdict_done Proved = tt
@@ -49,15 +53,21 @@ check_none_done status text m proof (inl h) = subst IsDone (sym h.status_is) (ve
 check_none_done status text m proof (inr h) = subst IsDone (sym h.3) tt
 
 -- of two right answers over the same proof each agrees with the other
-pub check_none_agrees : OneNoneVerdict → (c : Command) (status given : Status) (text lines : List ℕ) (m n : Problem) (proof other : Proof) → SameProblem m n → proof ≡ other → JudgesProof status text m proof → JudgesProof given lines n other → Agrees c status text given lines
+pub check_none_agrees : OneNoneVerdict → (c : Command) (status given : Status) (text lines : List ℕ) (m n : Problem) (proof other : Proof) →
+    SameProblem m n → proof ≡ other → JudgesProof status text m proof → JudgesProof given lines n other → Agrees c status text given lines
 check_none_agrees law c status given text lines m n proof other same e (inl h) (inl k) =
     same_given c (IsNoneVerdict (plain_problem m) proof) (IsNoneVerdict (plain_problem n) other) none_status
-    (proof_verdict_text m.names m.domain.operators proof.bound) (proof_verdict_text n.names n.domain.operators other.bound) status given text lines h k
+    (proof_verdict_text m.names m.domain.operators proof.bound) (proof_verdict_text n.names n.domain.operators other.bound) status given
+    text lines h k
     (one_verdict law m n proof other h.what k.what same e h.right k.right) (one_line m n proof other h.what same e)
-check_none_agrees law c status given text lines m n proof other same e h (inr k) = to_range c status given text lines (check_none_done status text m proof h) k.3
-check_none_agrees law c status given text lines m n proof other same e (inr h) k = from_range c status given text lines h.3 (check_none_done given lines n other k)
+check_none_agrees law c status given text lines m n proof other same e h (inr k) =
+    to_range c status given text lines (check_none_done status text m proof h) k.3
+check_none_agrees law c status given text lines m n proof other same e (inr h) k =
+    from_range c status given text lines h.3 (check_none_done given lines n other k)
 
-verdict_says : Laws → (files : Option Files) (d p q : List ℕ) (problem : Problem) (proof : Proof) (v : NoneVerdict) (text : List ℕ) → HoldProof files d p q problem proof → IsNoneVerdict (plain_problem problem) proof v → text ≡ proof_verdict_text problem.names problem.domain.operators proof.bound v → Headline files (check_none d p q) (none_status v) text
+verdict_says : Laws → (files : Option Files) (d p q : List ℕ) (problem : Problem) (proof : Proof) (v : NoneVerdict) (text : List ℕ) →
+    HoldProof files d p q problem proof → IsNoneVerdict (plain_problem problem) proof v → text ≡
+    proof_verdict_text problem.names problem.domain.operators proof.bound v → Headline files (check_none d p q) (none_status v) text
 verdict_says laws files d p q problem proof Proved text stand right line =
     (problem, proof, stand, record { covers = right; none = laws.covered (plain_problem problem) proof right; line = line })
 verdict_says laws files d p q problem proof (BadLink k) text stand right line = tt
@@ -65,10 +75,13 @@ verdict_says laws files d p q problem proof (Accepts k) text stand right line = 
 verdict_says laws files d p q problem proof (Open k a) text stand right line = tt
 
 -- what the headline says of a right answer
-pub check_none_says : Laws → (files : Option Files) (d p q : List ℕ) (status : Status) (text : List ℕ) (m : Problem) (proof : Proof) → HoldProof files d p q m proof → JudgesProof status text m proof → Headline files (check_none d p q) status text
+pub check_none_says : Laws → (files : Option Files) (d p q : List ℕ) (status : Status) (text : List ℕ) (m : Problem) (proof : Proof) →
+    HoldProof files d p q m proof → JudgesProof status text m proof → Headline files (check_none d p q) status text
 check_none_says laws files d p q status text m proof stand (inl h) =
-    subst (λ (s : Status). Headline files (check_none d p q) s text) (sym h.status_is) (verdict_says laws files d p q m proof h.what text stand h.right h.text_is)
-check_none_says laws files d p q status text m proof stand (inr h) = subst (λ (s : Status). Headline files (check_none d p q) s text) (sym h.3) tt
+    subst (λ (s : Status). Headline files (check_none d p q) s text) (sym h.status_is)
+    (verdict_says laws files d p q m proof h.what text stand h.right h.text_is)
+check_none_says laws files d p q status text m proof stand (inr h) = subst (λ (s : Status). Headline files (check_none d p q) s text)
+    (sym h.3) tt
 
 verdict_is_own : (v : NoneVerdict) → IsOwn (none_status v)
 verdict_is_own Proved = tt
@@ -77,7 +90,10 @@ verdict_is_own (Accepts k) = tt
 verdict_is_own (Open k a) = tt
 
 -- where nothing past range is looked at, no right answer has the status Range
-pub check_none_calm : (status : Status) (text : List ℕ) (m n : Problem) (proof other : Proof) → SameProblem m n → proof ≡ other → ((path : List Action) (note : RangeNote) → ¬ IsNoneCause (plain_problem m) proof.bound proof.links path (operation_of note)) → JudgesProof status text n other → IsOwn status
+pub check_none_calm : (status : Status) (text : List ℕ) (m n : Problem) (proof other : Proof) → SameProblem m n → proof ≡ other →
+    ((path : List Action) (note : RangeNote) → ¬ IsNoneCause (plain_problem m) proof.bound proof.links path (operation_of note)) →
+    JudgesProof status text n other → IsOwn status
 check_none_calm status text m n proof other same e calm (inl h) = subst IsOwn (sym h.status_is) (verdict_is_own h.what)
 check_none_calm status text m n proof other same e calm (inr h) =
-    absurd (calm h.0 h.1 (subst (λ (u : PlainProblem). IsNoneCause u proof.bound proof.links h.0 (operation_of h.1)) (sym same.meaning) (subst (λ (u : Proof). IsNoneCause (plain_problem n) u.bound u.links h.0 (operation_of h.1)) (sym e) h.2)))
+    absurd (calm h.0 h.1 (subst (λ (u : PlainProblem). IsNoneCause u proof.bound proof.links h.0 (operation_of h.1)) (sym same.meaning)
+    (subst (λ (u : Proof). IsNoneCause (plain_problem n) u.bound u.links h.0 (operation_of h.1)) (sym e) h.2)))

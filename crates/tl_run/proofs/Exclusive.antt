@@ -72,7 +72,8 @@ no_kind r a b x bytes m same passes (inr (inl h)) = faulty bytes m passes.forms 
 no_kind r a b x bytes m same passes (inr (inr h)) = lawful r a b x bytes h.rule same passes h.breaks
 
 -- a file that passes breaks no rule
-pub passes_or_breaks : (r : Role) (a b x : Input) (bytes : List ℕ) (m : Broken) → SameInput a b → StandsFor r a bytes x → IsBroken r b bytes m → ⊥
+pub passes_or_breaks : (r : Role) (a b x : Input) (bytes : List ℕ) (m : Broken) → SameInput a b → StandsFor r a bytes x →
+    IsBroken r b bytes m → ⊥
 passes_or_breaks r a b x bytes m same passes h = no_kind r a b x bytes m same passes (kinds r b bytes m h)
 
 same_fault : (bytes : List ℕ) (m n : Broken) → TextBreaks bytes m → TextBreaks bytes n → m ≡ n
@@ -92,5 +93,6 @@ same_kind r a b bytes m n same (inr (inr h)) (inr (inr k)) =
     h.is ∙ ap (λ (x : Break). Form x.0 x.1) (rule_one r a b bytes h.rule k.rule same h.breaks k.breaks) ∙ sym k.is
 
 -- a file breaks one rule as the least
-pub broken_one : (r : Role) (a b : Input) (bytes : List ℕ) (m n : Broken) → SameInput a b → IsBroken r a bytes m → IsBroken r b bytes n → m ≡ n
+pub broken_one : (r : Role) (a b : Input) (bytes : List ℕ) (m n : Broken) → SameInput a b → IsBroken r a bytes m → IsBroken r b bytes n →
+    m ≡ n
 broken_one r a b bytes m n same h k = same_kind r a b bytes m n same (kinds r a bytes m h) (kinds r b bytes n k)

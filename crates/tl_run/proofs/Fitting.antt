@@ -7,7 +7,8 @@ use Rattle.tl_run.specs.declared.turn.Input.{Input as Held}
 use Rattle.tl_run.specs.declared.turn.Input.TheVariants as held
 use Rattle.tl_run.specs.declared.words.Role.{Role}
 use Rattle.tl_run.specs.declared.words.Role.TheVariants as role
-use Rattle.tl_run.specs.Commands.{Command, check, search, trace, explain, prove_none, check_none, sample, cheapest, check_loop, three_files, two_files}
+use Rattle.tl_run.specs.Commands.{Command, check, search, trace, explain, prove_none, check_none, sample, cheapest, check_loop, three_files}
+use Rattle.tl_run.specs.Commands.{two_files}
 use Rattle.tl_run.specs.Held.{IsHeld, last_role}
 use Rattle.tl_run.specs.Inputs.{Input, nothing, a_domain, a_problem, a_plan, a_proof, IsMeant, some_costs, a_loop}
 use Rattle.tl_run.specs.Replies.{FitsCommand}
@@ -44,13 +45,15 @@ meant_role role.Costs (a_problem p) (some_costs q costs) forms h = refl
 meant_role role.Loop (a_problem p) (a_loop q plan) forms h = refl
 meant_role r before after forms h = absurd h
 
-two_fit : (files : Option Files) (d p : List ℕ) (h : Held) (x : Input) → StandTogether files (two_files d p) nothing x → IsHeld h x → last_role h ≡ Some role.Problem
+two_fit : (files : Option Files) (d p : List ℕ) (h : Held) (x : Input) → StandTogether files (two_files d p) nothing x → IsHeld h x →
+    last_role h ≡ Some role.Problem
 two_fit files d p h x stand is =
     let second = stand.4 in
     let stands = second.3 in
     held_role h x is ∙ ap last_read (sym second.4) ∙ meant_role role.Problem stand.1 second.1 stands.forms stands.meant
 
-three_fit : (files : Option Files) (d p q : List ℕ) (r : Role) (h : Held) (x : Input) → StandTogether files (three_files d p r q) nothing x → IsHeld h x → last_role h ≡ Some r
+three_fit : (files : Option Files) (d p q : List ℕ) (r : Role) (h : Held) (x : Input) →
+    StandTogether files (three_files d p r q) nothing x → IsHeld h x → last_role h ≡ Some r
 three_fit files d p q r h x stand is =
     let second = stand.4 in
     let third = second.4 in
@@ -65,6 +68,7 @@ fits files (trace s d p) h x stand is = two_fit files d p h x stand is
 fits files (explain d p q) h x stand is = three_fit files d p q role.Plan h x stand is
 fits files (prove_none s d p) h x stand is = two_fit files d p h x stand is
 fits files (check_none d p q) h x stand is = three_fit files d p q role.Proof h x stand is
-fits files (sample balls) h x stand is = let stands = stand.2 in held_role h x is ∙ meant_role role.Problem stand.0 x stands.forms stands.meant
+fits files (sample balls) h x stand is = let stands = stand.2 in held_role h x is ∙
+    meant_role role.Problem stand.0 x stands.forms stands.meant
 fits files (cheapest b d p k) h x stand is = three_fit files d p k role.Costs h x stand is
 fits files (check_loop d p q) h x stand is = three_fit files d p q role.Loop h x stand is

@@ -3,7 +3,8 @@ use Rattle.std.proofs.Common.{◌≡◌, ℕ, inl, inr, List, [], ◌∷◌, ref
 use Rattle.std.specs.Prelude.{◌==◌, if◌then◌else◌}
 use Rattle.tl_syntax.specs.Lists.{Each, Among}
 use Rattle.tl_rules.specs.declared.rule.Rule.{Rule}
-use Rattle.tl_rules.specs.declared.rule.Rule.TheVariants.{Shape, Unknown, Twice, Arity, Unbound, Shadow, NotInBound, Temporal, GoalArg, Limit, NotGround, TwoValues, NoOperator, ArgumentCount, NotAValue, NoPair}
+use Rattle.tl_rules.specs.declared.rule.Rule.TheVariants.{Shape, Unknown, Twice, Arity, Unbound, Shadow, NotInBound, Temporal, GoalArg}
+use Rattle.tl_rules.specs.declared.rule.Rule.TheVariants.{Limit, NotGround, TwoValues, NoOperator, ArgumentCount, NotAValue, NoPair}
 use Rattle.tl_rules.specs.Rules.{Break, rule_number, IsNoLater, IsLeastBreak}
 
 -- the rule of this number

@@ -14,7 +14,9 @@ use Rattle.tl_run.specs.Cheapest.{IsCostOutcome}
 use Rattle.tl_run.specs.Searched.{HasNamedPath}
 use Rattle.tl_run.proofs.NamedPlans.{named_both, states_take}
 
-pub cost_plan_is_named : StepByItsConditions → (b : ℕ) (task : Task) (costs : List ℕ) (o : CostOutcome) → IsCostOutcome b (plain_problem task.problem) costs o → CostOutcomeIsNamed task o → HasNamedPlan task.problem.names task.problem.domain.operators o
+pub cost_plan_is_named : StepByItsConditions → (b : ℕ) (task : Task) (costs : List ℕ) (o : CostOutcome) →
+    IsCostOutcome b (plain_problem task.problem) costs o → CostOutcomeIsNamed task o →
+    HasNamedPlan task.problem.names task.problem.domain.operators o
 cost_plan_is_named law b task costs (outcome.Plan plan cost) right named =
     let p = plain_problem task.problem in
     let accepted = right.accepted in
@@ -22,7 +24,9 @@ cost_plan_is_named law b task costs (outcome.Plan plan cost) right named =
 cost_plan_is_named law b task costs outcome.NoPlan right named = tt
 cost_plan_is_named law b task costs outcome.Spent right named = tt
 
-pub cost_path_is_named : StepByItsConditions → (b : ℕ) (task : Task) (costs : List ℕ) (f : SearchFault) → IsCheapestFault (plain_problem task.problem) costs b f → FaultIsNamed task f → HasNamedPath task.problem.names task.problem.domain.operators f
+pub cost_path_is_named : StepByItsConditions → (b : ℕ) (task : Task) (costs : List ℕ) (f : SearchFault) →
+    IsCheapestFault (plain_problem task.problem) costs b f → FaultIsNamed task f →
+    HasNamedPath task.problem.names task.problem.domain.operators f
 cost_path_is_named law b task costs (fault.Range path note) right named =
     let p = plain_problem task.problem in
     let cause = right.cause in

@@ -26,11 +26,13 @@ use Rattle.tl_run.proofs.NamedPlans.{IsOfOperator, named_both, plan_is_named, st
 use Rattle.tl_run.proofs.TraceLaws.{trace_outcome}
 
 -- an action after which there is a search node is of an operator
-steps_take : StepByItsConditions → (p : PlainProblem) (x y : Pair) (a : Action) (after : Option World) → step p x.world a ≡ after → option_map (pair_in p x.formula) after ≡ Some y → IsOfOperator p a
+steps_take : StepByItsConditions → (p : PlainProblem) (x y : Pair) (a : Action) (after : Option World) → step p x.world a ≡ after →
+    option_map (pair_in p x.formula) after ≡ Some y → IsOfOperator p a
 steps_take law p x y a None is e = absurd (let z : ⊥ = cc in z)
 steps_take law p x y a (Some w) is e = step_takes law p x.world w a is
 
-pub action_is_named : StepByItsConditions → (task : Task) (x y : Pair) (a : Action) → next_pair (plain_problem task.problem) x a ≡ Some y → IsNamedIn task a → ActionIsNamed task.problem.names task.problem.domain.operators a
+pub action_is_named : StepByItsConditions → (task : Task) (x y : Pair) (a : Action) → next_pair (plain_problem task.problem) x a ≡ Some y →
+    IsNamedIn task a → ActionIsNamed task.problem.names task.problem.domain.operators a
 action_is_named law task x y a e named =
     let p = plain_problem task.problem in
     let both = named_both task.problem (a ∷ []) (steps_take law p x y a (step p x.world a) refl e, tt) (named, tt) in
@@ -46,7 +48,8 @@ event_keeps p old (event.Kept j a k) new t =
 event_keeps p old (event.Seen j a k) new t = let n : length new ≡ length old = ap length t.5 in omega (arith, n)
 event_keeps p old (event.Pruned j a) new t = let n : length new ≡ length old = ap length t.5 in omega (arith, n)
 
-events_keep : (p : PlainProblem) (old : List KeptPair) (events : List Event) (new : List KeptPair) → AreTrueEvents p old events new → length old ≤ length new
+events_keep : (p : PlainProblem) (old : List KeptPair) (events : List Event) (new : List KeptPair) → AreTrueEvents p old events new →
+    length old ≤ length new
 events_keep p old [] new told = let n : length old ≡ length new = ap length told in omega (arith, n)
 events_keep p old (e ∷ events) new told =
     let first = event_keeps p old e told.0 told.1 in
@@ -54,7 +57,8 @@ events_keep p old (e ∷ events) new told =
     omega (arith, first, others)
 
 module _ (law : StepByItsConditions) (task : Task) where
-  event_writable : (old : List KeptPair) (e : Event) (new : List KeptPair) (n : ℕ) → IsTrueEvent (plain_problem task.problem) old e new → EventIsNamed task e → length old ≤ length new → length new ≤ n → EventIsWritable task.problem.names task.problem.domain n e
+  event_writable : (old : List KeptPair) (e : Event) (new : List KeptPair) (n : ℕ) → IsTrueEvent (plain_problem task.problem) old e new →
+      EventIsNamed task e → length old ≤ length new → length new ≤ n → EventIsWritable task.problem.names task.problem.domain n e
   event_writable old event.RootKept new n t named grows few = let m : length new ≡ 1 = ap length t.4 in omega (arith, m, few)
   event_writable old event.RootPruned new n t named grows few = tt
   event_writable old (event.Kept j a k) new n t named grows few =
@@ -70,15 +74,23 @@ module _ (law : StepByItsConditions) (task : Task) where
       let here : j < length old = slice_get_within old j t.0 t.2 in
       (omega (arith, here, grows, few), action_is_named law task t.0.node t.1 a t.3 named)
 
-  events_writable : (old : List KeptPair) (events : List Event) (new : List KeptPair) → AreTrueEvents (plain_problem task.problem) old events new → EventsAreNamed task events → AreWritable task.problem.names task.problem.domain (length new) events
+  events_writable : (old : List KeptPair) (events : List Event) (new : List KeptPair) →
+      AreTrueEvents (plain_problem task.problem) old events new → EventsAreNamed task events →
+      AreWritable task.problem.names task.problem.domain (length new) events
   events_writable old [] new told named = tt
   events_writable old (e ∷ events) new told named =
-      let p = plain_problem task.problem in
-      (event_writable old e told.0 (length new) told.1 named.0 (event_keeps p old e told.0 told.1) (events_keep p told.0 events new told.2), events_writable told.0 events new told.2 named.1)
+      let p = plain_problem task.problem in (
+        event_writable old e told.0 (length new) told.1 named.0 (event_keeps p old e told.0 told.1)
+            (events_keep p told.0 events new told.2),
+        events_writable told.0 events new told.2 named.1,
+      )
 
 -- so the lines of a report name only what the problem has
-pub lines_are_named : StepByItsConditions → (search : Search) (task : Task) (kept : List KeptPair) (report : Report) → IsTraceReport search (plain_problem task.problem) kept report → EventsAreNamed task report.events → OutcomeIsNamed task report.outcome → HasNamedLines task.problem kept report
+pub lines_are_named : StepByItsConditions → (search : Search) (task : Task) (kept : List KeptPair) (report : Report) →
+    IsTraceReport search (plain_problem task.problem) kept report → EventsAreNamed task report.events → OutcomeIsNamed task report.outcome →
+    HasNamedLines task.problem kept report
 lines_are_named law search task kept report right events plan = record {
   events = events_writable law task [] report.events kept right.told events;
-  plan = plan_is_named law search task report.outcome (trace_outcome search (plain_problem task.problem) kept report.events report.outcome right) plan;
+  plan = plan_is_named law search task report.outcome (trace_outcome search
+      (plain_problem task.problem) kept report.events report.outcome right) plan;
 }

@@ -1,5 +1,7 @@
--- Verdicts on proofs, and the paths at whose ends a check ends, name only what the problem has; and these paths are no longer than the links are many.
-use Rattle.std.proofs.Common.{◌≡◌, ◌⊎◌, inl, inr, ℕ, zero, suc, ◌+◌, ◌<◌, ◌≤◌, List, [], ◌∷◌, ◌++◌, length, take, slice_get, Option, Some, None, true≢false, refl, sym, ap, subst, arith}
+-- Verdicts on proofs, and the paths at whose ends a check ends, name only what the problem has; and these paths are no longer than the
+-- links are many.
+use Rattle.std.proofs.Common.{◌≡◌, ◌⊎◌, inl, inr, ℕ, zero, suc, ◌+◌, ◌<◌, ◌≤◌, List, [], ◌∷◌, ◌++◌, length, take, slice_get, Option, Some}
+use Rattle.std.proofs.Common.{None, true≢false, refl, sym, ap, subst, arith}
 use Rattle.std.specs.Prelude.{◌≢◌, IsSome}
 use Rattle.std.proofs.lemmas.Option.{slice_get_within}
 use Rattle.tl_cert.specs.Causes.{IsVisited, LooksAtRoot, LooksAfterAction, LooksByIdling, LooksByActing, IsNoneCause, IsNoneFault}
@@ -31,7 +33,9 @@ use Rattle.tl_run.proofs.NamedEvents.{action_is_named}
 use Rattle.tl_run.proofs.NamedPlans.{named_both, states_take}
 
 -- the action of a verdict is one of the problem
-pub verdict_is_named : StepByItsConditions → (task : Task) (proof : Proof) (v : NoneVerdict) → IsNoneVerdict (plain_problem task.problem) proof v → VerdictIsNamed task v → HasNamedAction task.problem.names task.problem.domain.operators v
+pub verdict_is_named : StepByItsConditions → (task : Task) (proof : Proof) (v : NoneVerdict) →
+    IsNoneVerdict (plain_problem task.problem) proof v → VerdictIsNamed task v →
+    HasNamedAction task.problem.names task.problem.domain.operators v
 verdict_is_named law task proof Proved right named = tt
 verdict_is_named law task proof (BadLink k) right named = tt
 verdict_is_named law task proof (Accepts k) right named = tt
@@ -47,7 +51,8 @@ is_there None h = absurd (true≢false (sym h))
 is_there (Some x) h = (x, refl)
 
 -- and so are those of the path to an operation past range
-pub none_path_is_named : StepByItsConditions → (task : Task) (proof : Proof) (f : SearchFault) → IsNoneFault (plain_problem task.problem) proof f → FaultIsNamed task f → HasNamedPath task.problem.names task.problem.domain.operators f
+pub none_path_is_named : StepByItsConditions → (task : Task) (proof : Proof) (f : SearchFault) →
+    IsNoneFault (plain_problem task.problem) proof f → FaultIsNamed task f → HasNamedPath task.problem.names task.problem.domain.operators f
 none_path_is_named law task proof (fault.Range path note) right named =
     let p = plain_problem task.problem in
     let there = is_there (states p path) right.executes in
@@ -66,7 +71,8 @@ one_short x zero y e =
     omega (arith, n)
 one_short x (suc i) y e = absurd (let b : ⊥ = cc in b)
 
-root_short : (first : List KeptPair) (x : Pair) → ((x.formula ≡ falsum) × (first ≡ [])) ⊎ ((x.formula ≢ falsum) × (first ≡ record { node = x; path = [] } ∷ [])) → AreShort first × (length first ≤ 1)
+root_short : (first : List KeptPair) (x : Pair) → ((x.formula ≡ falsum) × (first ≡ [])) ⊎
+    ((x.formula ≢ falsum) × (first ≡ record { node = x; path = [] } ∷ [])) → AreShort first × (length first ≤ 1)
 root_short first x (inl h) = (subst AreShort (sym h.1) none_short, let e : length first ≡ 0 = ap length h.1 in omega (arith, e))
 root_short first x (inr h) = (subst AreShort (sym h.1) (one_short x), let e : length first ≡ 1 = ap length h.1 in omega (arith, e))
 
@@ -77,7 +83,8 @@ taken_few zero (l ∷ ls) = omega arith
 taken_few (suc n) (l ∷ ls) = let e = taken_few n ls in omega (arith, e)
 
 module _ (p : PlainProblem) (bound : Option ℕ) where
-  good_short : (old : List KeptPair) (links : List Link) (new : List KeptPair) → AreGood p bound old links new → AreShort old → AreShort new × (length new ≡ length old + length links)
+  good_short : (old : List KeptPair) (links : List Link) (new : List KeptPair) → AreGood p bound old links new → AreShort old →
+      AreShort new × (length new ≡ length old + length links)
   good_short old [] new h short = (subst AreShort (sym h) short, let e : length new ≡ length old = ap length h in omega (arith, e))
   good_short old (l ∷ ls) new h short =
       let rest = good_short (old ++ h.0 ∷ []) ls new h.2 (short-more p bound old l h.0 h.1 short) in
@@ -85,7 +92,8 @@ module _ (p : PlainProblem) (bound : Option ℕ) where
       (rest.0, omega (arith, rest.1, e))
 
   -- the path of a node that some links list
-  listed_short : (links : List Link) (listed : List KeptPair) (k : ℕ) (x : KeptPair) → Lists p bound links listed → slice_get listed k ≡ Some x → length x.path ≤ length links
+  listed_short : (links : List Link) (listed : List KeptPair) (k : ℕ) (x : KeptPair) → Lists p bound links listed → slice_get listed k ≡
+      Some x → length x.path ≤ length links
   listed_short links listed k x h at =
       let root = h.1 in
       let first = root_short h.0 root.0 root.2 in
@@ -102,7 +110,9 @@ module _ (p : PlainProblem) (bound : Option ℕ) where
       omega (arith, e, few)
   visited_short links x a (inr h) = listed_short links h.listed h.number x h.lists h.node
 
-  looked_short : (links : List Link) (path : List Action) (o : Operation) → LooksAtRoot p path o ⊎ (LooksAfterAction p bound links path o ⊎ (LooksByIdling p bound links path o ⊎ LooksByActing p bound links path o)) → length path ≤ length links + 1
+  looked_short : (links : List Link) (path : List Action) (o : Operation) → LooksAtRoot p path o ⊎
+      (LooksAfterAction p bound links path o ⊎ (LooksByIdling p bound links path o ⊎ LooksByActing p bound links path o)) →
+      length path ≤ length links + 1
   looked_short links path o (inl h) = let e : length path ≡ 0 = ap length h.0 in omega (arith, e)
   looked_short links path o (inr (inl h)) =
       let x = h.node in
@@ -124,5 +134,6 @@ module _ (p : PlainProblem) (bound : Option ℕ) where
       omega (arith, e, short)
 
 -- the path to an operation past range has at most one action more than there are links
-pub none_path_short : (p : PlainProblem) (bound : Option ℕ) (links : List Link) (path : List Action) (o : Operation) → IsNoneCause p bound links path o → length path ≤ length links + 1
+pub none_path_short : (p : PlainProblem) (bound : Option ℕ) (links : List Link) (path : List Action) (o : Operation) →
+    IsNoneCause p bound links path o → length path ≤ length links + 1
 none_path_short p bound links path o h = looked_short p bound links path o h.looked

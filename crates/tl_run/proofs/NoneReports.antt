@@ -1,5 +1,6 @@
 -- What a breadth-first search reports that found no plan leaves a proof which covers the search space.
-use Rattle.std.proofs.Common.{◌≡◌, inl, inr, ℕ, ◌<◌, ◌≤◌, ◌^◌, List, [], ◌∷◌, ◌++◌, length, slice_get, Option, Some, refl, sym, ap, ◌∙◌, subst, arith}
+use Rattle.std.proofs.Common.{◌≡◌, inl, inr, ℕ, ◌<◌, ◌≤◌, ◌^◌, List, [], ◌∷◌, ◌++◌, length, slice_get, Option, Some, refl, sym, ap, ◌∙◌}
+use Rattle.std.proofs.Common.{subst, arith}
 use Rattle.tl_breadth.specs.Events.{Arrived, AreAllArrivals, AreFirstArrivals, arrived_in, arrivals_of}
 use Rattle.tl_breadth.specs.Outcomes.{IsBreadthFirstOutcome, PathsAreShortest}
 use Rattle.tl_cert.specs.Covers.{Covers}
@@ -60,7 +61,8 @@ arrival_told (event.Seen i b k ∷ es) j a (inr h) = inr (arrival_told es j a h)
 arrival_told (event.Pruned i b ∷ es) j a (inl e) = inl (ap (λ (r : Arrived). r.0) e, ap (λ (r : Arrived). r.1) e)
 arrival_told (event.Pruned i b ∷ es) j a (inr h) = inr (arrival_told es j a h)
 
-short_too : (kept : List KeptPair) (j n : ℕ) (x y : KeptPair) → slice_get kept j ≡ Some x → slice_get kept j ≡ Some y → length y.path < n → length x.path < n
+short_too : (kept : List KeptPair) (j n : ℕ) (x y : KeptPair) → slice_get kept j ≡ Some x → slice_get kept j ≡ Some y → length y.path < n →
+    length x.path < n
 short_too kept j n x y at other short =
     let e : Some x ≡ Some y = sym at ∙ other in
     let q : x ≡ y = cc in
@@ -69,24 +71,29 @@ short_too kept j n x y at other short =
 -- ---- the report
 
 -- what the outcome says, that paths are shortest, and how many nodes are kept
-outcome_says : (p : PlainProblem) (n b : ℕ) (kept : List KeptPair) (o : Outcome) → FindsNone o → IsBreadthFirstOutcome p n b kept o → IsRightNone p n o × PathsAreShortest p kept × (length kept ≤ b)
+outcome_says : (p : PlainProblem) (n b : ℕ) (kept : List KeptPair) (o : Outcome) → FindsNone o → IsBreadthFirstOutcome p n b kept o →
+    IsRightNone p n o × PathsAreShortest p kept × (length kept ≤ b)
 outcome_says p n b kept (outcome.Plan plan) none h = absurd none
 outcome_says p n b kept outcome.NoPlan none h = ((h.0, h.1), h.3, h.2)
 outcome_says p n b kept outcome.NoneWithin none h = (h.0, h.3, h.2)
 outcome_says p n b kept outcome.Spent none h = absurd none
 
-all_told : (p : PlainProblem) (n : ℕ) (kept : List KeptPair) (events : List Event) (o : Outcome) → FindsNone o → TellsInTurn p n kept events o → AreFirstArrivals p n kept (arrivals_of events) × AreAllArrivals p n kept (arrivals_of events)
+all_told : (p : PlainProblem) (n : ℕ) (kept : List KeptPair) (events : List Event) (o : Outcome) → FindsNone o →
+    TellsInTurn p n kept events o → AreFirstArrivals p n kept (arrivals_of events) × AreAllArrivals p n kept (arrivals_of events)
 all_told p n kept events (outcome.Plan plan) none h = absurd none
 all_told p n kept events outcome.NoPlan none h = h
 all_told p n kept events outcome.NoneWithin none h = h
 all_told p n kept events outcome.Spent none h = absurd none
 
-module _ (s : Search) (p : PlainProblem) (kept : List KeptPair) (report : Report) (breadth : s.mode ≡ Breadth) (right : IsTraceReport s p kept report) (none : FindsNone report.outcome) where
+module _ (s : Search) (p : PlainProblem) (kept : List KeptPair) (report : Report) (breadth : s.mode ≡ Breadth)
+    (right : IsTraceReport s p kept report) (none : FindsNone report.outcome) where
   said : IsRightNone p s.within report.outcome × PathsAreShortest p kept × (length kept ≤ s.nodes)
-  said = outcome_says p s.within s.nodes kept report.outcome none (subst (λ (m : Mode). IsSearchIn m s.within s.nodes p kept report.outcome) breadth right.ended)
+  said = outcome_says p s.within s.nodes kept report.outcome none (subst
+      (λ (m : Mode). IsSearchIn m s.within s.nodes p kept report.outcome) breadth right.ended)
 
   told : AreFirstArrivals p s.within kept (arrivals_of report.events) × AreAllArrivals p s.within kept (arrivals_of report.events)
-  told = let actions = subst (λ (m : Mode). TellsActionsIn m s.within p kept report.events report.outcome) breadth right.actions in all_told p s.within kept report.events report.outcome none actions.1
+  told = let actions = subst (λ (m : Mode). TellsActionsIn m s.within p kept report.events report.outcome) breadth right.actions in
+      all_told p s.within kept report.events report.outcome none actions.1
 
   -- it says that there is no plan, in such a way that a proof can be made of it
   pub none_report : IsNoneReport p s.within kept report
@@ -112,7 +119,8 @@ module _ (s : Search) (p : PlainProblem) (kept : List KeptPair) (report : Report
   few_links limits count h = omega (arith, said.2, limits.nodes, h)
 
 -- the actions of its links are those of the problem
-pub links_named : (names : List (List ℕ)) (domain : Domain) (n : ℕ) (events : List Event) → AreWritable names domain n events → LinksAreNamed names domain.operators (links_of events)
+pub links_named : (names : List (List ℕ)) (domain : Domain) (n : ℕ) (events : List Event) → AreWritable names domain n events →
+    LinksAreNamed names domain.operators (links_of events)
 links_named names domain n [] h = tt
 links_named names domain n (event.RootKept ∷ es) h = links_named names domain n es h.1
 links_named names domain n (event.RootPruned ∷ es) h = links_named names domain n es h.1
@@ -127,7 +135,11 @@ bound_is n outcome.NoneWithin none = refl
 bound_is n outcome.Spent none = absurd none
 
 -- the reply with the proof
-pub certificate_replied : (s : Search) (d p : List ℕ) (problem : Problem) (kept : List KeptPair) (report : Report) (proof : Proof) (text : List ℕ) → IsTraceReport s (plain_problem problem) kept report → FindsNone report.outcome → Covers (plain_problem problem) proof → proof.bound ≡ bound_of s.within report.outcome → StartBefore 0 proof.links → length proof.links ≤ 100000 → LinksFit proof.links → text ≡ proof_text problem.names problem.domain.operators proof → Replies (prove_none s d p) (a_problem problem) (record { status = Yes; text = text })
+pub certificate_replied : (s : Search) (d p : List ℕ) (problem : Problem) (kept : List KeptPair) (report : Report) (proof : Proof)
+    (text : List ℕ) → IsTraceReport s (plain_problem problem) kept report → FindsNone report.outcome →
+    Covers (plain_problem problem) proof → proof.bound ≡ bound_of s.within report.outcome → StartBefore 0 proof.links →
+    length proof.links ≤ 100000 → LinksFit proof.links → text ≡ proof_text problem.names problem.domain.operators proof →
+    Replies (prove_none s d p) (a_problem problem) (record { status = Yes; text = text })
 certificate_replied s d p problem kept report proof text right none covers bound order few fit line = record {
   right = inl (record {
     what = proof;

@@ -29,7 +29,8 @@ seen_as fs vs gs ws ns t = record {
   control = t.control;
 }
 
-problem_seen : (p : Problem) → plain_problem p ≡ seen_as p.init_facts p.init_values p.goal_facts p.goal_values p.goal_nots (domain_tree p.domain)
+problem_seen : (p : Problem) → plain_problem p ≡ seen_as p.init_facts p.init_values p.goal_facts p.goal_values p.goal_nots
+    (domain_tree p.domain)
 unfolding plain_problem
 problem_seen p =
     let definitions = sym (map_seen definition_in definition_tree p.domain.definitions) in
@@ -57,21 +58,24 @@ pub record SameProblem (p q : Problem) : Type 0 where
   pub heads : map head_of p.domain.operators ≡ map head_of q.domain.operators
   pub words : SameWords p.domain q.domain
 
-definitions_seen : (p : Problem) → map (λ (d : Definition). d.name) p.domain.definitions ≡ map (λ (d : DefinitionTree). d.name) (domain_tree p.domain).definitions
+definitions_seen : (p : Problem) → map (λ (d : Definition). d.name) p.domain.definitions ≡
+    map (λ (d : DefinitionTree). d.name) (domain_tree p.domain).definitions
 definitions_seen p = sym (map_seen (λ (d : DefinitionTree). d.name) definition_tree p.domain.definitions)
 
 same_words : (p q : Problem) → SameParts p q → SameWords p.domain q.domain
 same_words p q s = record {
   predicates = ap (λ (t : DomainTree). t.predicates) s.domain;
   functions = ap (λ (t : DomainTree). t.functions) s.domain;
-  definitions = definitions_seen p ∙ ap (λ (t : DomainTree). map (λ (d : DefinitionTree). d.name) t.definitions) s.domain ∙ sym (definitions_seen q);
+  definitions = definitions_seen p ∙ ap (λ (t : DomainTree). map (λ (d : DefinitionTree). d.name) t.definitions) s.domain ∙
+      sym (definitions_seen q);
   operators = heads_seen p ∙ ap (λ (t : DomainTree). map head_in t.operators) s.domain ∙ sym (heads_seen q);
 }
 
 -- problems of the same parts are the same
 pub same_problem : (p q : Problem) → SameParts p q → SameProblem p q
 same_problem p q s = record {
-  meaning = problem_seen p ∙ (λ i. seen_as (s.said i).init.facts (s.said i).init.values (s.said i).goal.facts (s.said i).goal.values (s.said i).goal.nots (s.domain i)) ∙ sym (problem_seen q);
+  meaning = problem_seen p ∙ (λ i. seen_as (s.said i).init.facts (s.said i).init.values (s.said i).goal.facts (s.said i).goal.values
+      (s.said i).goal.nots (s.domain i)) ∙ sym (problem_seen q);
   names = s.names;
   heads = heads_seen p ∙ ap (λ (t : DomainTree). map head_in t.operators) s.domain ∙ sym (heads_seen q);
   words = same_words p q s;

@@ -13,7 +13,8 @@ use Rattle.tl_run.specs.declared.status.Status.TheVariants.{Yes, No, Spent, Refu
 use Rattle.tl_run.specs.declared.stop.Broken.{Broken}
 use Rattle.tl_run.specs.declared.words.Role.TheVariants as role
 use Rattle.tl_run.specs.Answers.{Answers}
-use Rattle.tl_run.specs.Commands.{Command, check, search, trace, explain, prove_none, check_none, sample, cheapest, check_loop, three_files, two_files}
+use Rattle.tl_run.specs.Commands.{Command, check, search, trace, explain, prove_none, check_none, sample, cheapest, check_loop, three_files}
+use Rattle.tl_run.specs.Commands.{two_files}
 use Rattle.tl_run.specs.Inputs.{Input, nothing, a_problem, a_plan, a_proof, some_costs, a_loop}
 use Rattle.tl_run.specs.Laws.{Laws}
 use Rattle.tl_run.specs.Over.{HoldProblem, StandForProblem}
@@ -28,7 +29,8 @@ use Rattle.tl_run.proofs.CheckLoopLaws.{check_loop_agrees, check_loop_calm, chec
 use Rattle.tl_run.proofs.CheckNoneLaws.{check_none_agrees, check_none_calm, check_none_done, check_none_says}
 use Rattle.tl_run.proofs.ExplainLaws.{explain_agrees, explain_calm, explain_done, explain_says}
 use Rattle.tl_run.proofs.InTurn.{no_refusal, one_refusal, sample_one, stand_same}
-use Rattle.tl_run.proofs.Meant.{HoldCosts, HoldLoop, HoldPlan, HoldProof, costs_in_turn, loop_in_turn, plan_in_turn, problem_in_turn, proof_in_turn, sample_in_turn}
+use Rattle.tl_run.proofs.Meant.{HoldCosts, HoldLoop, HoldPlan, HoldProof, costs_in_turn, loop_in_turn, plan_in_turn, problem_in_turn}
+use Rattle.tl_run.proofs.Meant.{proof_in_turn, sample_in_turn}
 use Rattle.tl_run.proofs.OneProblem.{SameProblem}
 use Rattle.tl_run.proofs.ProveNoneLaws.{prove_none_agrees, prove_none_calm, prove_none_done, prove_none_says}
 use Rattle.tl_run.proofs.SampleLaws.{sample_agrees, sample_calm, sample_done, sample_says}
@@ -36,7 +38,8 @@ use Rattle.tl_run.proofs.SearchLaws.{search_agrees, search_calm, search_done, se
 use Rattle.tl_run.proofs.TraceLaws.{trace_agrees, trace_calm, trace_done, trace_says}
 
 -- the status of what is right over all files: one line for each command
-answer_done : (fits : Bool) (files : Option Files) (c : Command) (status : Status) (text : List ℕ) → Answers fits files c status text → IsDone status
+answer_done : (fits : Bool) (files : Option Files) (c : Command) (status : Status) (text : List ℕ) → Answers fits files c status text →
+    IsDone status
 answer_done fits files (check d p q) status text h = check_done status text h.0 h.1 h.3
 answer_done fits files (search s d p) status text h = search_done fits s status text h.0 h.2
 answer_done fits files (trace s d p) status text h = trace_done fits s status text h.0 h.2
@@ -55,7 +58,8 @@ done_has_lines Range done = tt
 done_has_lines status done = absurd done
 
 -- the status of an answer comes with lines
-pub has_lines : (files : Option Files) (c : Command) (told : CallsTold) (status : Status) (text : List ℕ) → IsAnswer files c told status text → HasLines status
+pub has_lines : (files : Option Files) (c : Command) (told : CallsTold) (status : Status) (text : List ℕ) →
+    IsAnswer files c told status text → HasLines status
 has_lines files c told status text (inl h) = done_has_lines status (answer_done true files c status text h)
 has_lines files c told status text (inr h) = let refuses = h.2 in subst HasLines (sym refuses.1) tt
 
@@ -72,7 +76,8 @@ refused_says files (cheapest b d p k) text = tt
 refused_says files (check_loop d p q) text = tt
 
 -- what it says of a right answer: one line for each command
-right_says : Laws → (files : Option Files) (c : Command) (status : Status) (text : List ℕ) → Answers true files c status text → Headline files c status text
+right_says : Laws → (files : Option Files) (c : Command) (status : Status) (text : List ℕ) → Answers true files c status text →
+    Headline files c status text
 right_says laws files (check d p q) status text h = check_says files d p q status text h.0 h.1 h.2 h.3
 right_says laws files (search s d p) status text h = search_says files s d p status text h.0 h.1 h.2
 right_says laws files (trace s d p) status text h = trace_says files s d p status text h.0 h.1 h.2
@@ -83,42 +88,52 @@ right_says laws files (sample m) status text h = sample_says laws files m status
 right_says laws files (cheapest b d p k) status text h = cheapest_says files b d p k status text h.0 h.1 h.2 h.3
 right_says laws files (check_loop d p q) status text h = check_loop_says files d p q status text h.0 h.1 h.2 h.3
 
-headline_of : Laws → (files : Option Files) (c : Command) (told : CallsTold) (status : Status) (text : List ℕ) → IsAnswer files c told status text → Headline files c status text
+headline_of : Laws → (files : Option Files) (c : Command) (told : CallsTold) (status : Status) (text : List ℕ) →
+    IsAnswer files c told status text → Headline files c status text
 headline_of laws files c told status text (inl h) = right_says laws files c status text h
 headline_of laws files c told status text (inr h) =
     let refuses = h.2 in subst (λ (s : Status). Headline files c s text) (sym refuses.1) (refused_says files c text)
 
 -- told files stand for one problem, and for one thing besides
 
-two_same : Laws → (files : Files) (d p : List ℕ) (m n : Problem) → HoldProblem (Some files) d p m → HoldProblem (Some files) d p n → SameProblem m n
+two_same : Laws → (files : Files) (d p : List ℕ) (m n : Problem) → HoldProblem (Some files) d p m → HoldProblem (Some files) d p n →
+    SameProblem m n
 two_same laws files d p m n h k =
-    stand_same laws.problems files (two_files d p) nothing nothing (a_problem m) (a_problem n) tt (problem_in_turn (Some files) d p m h) (problem_in_turn (Some files) d p n k)
+    stand_same laws.problems files (two_files d p) nothing nothing (a_problem m) (a_problem n) tt (problem_in_turn (Some files) d p m h)
+    (problem_in_turn (Some files) d p n k)
 
-plans_same : Laws → (files : Files) (d p q : List ℕ) (m n : Problem) (plan other : List Action) → HoldPlan (Some files) d p q m plan → HoldPlan (Some files) d p q n other → SameProblem m n × (plan ≡ other)
+plans_same : Laws → (files : Files) (d p q : List ℕ) (m n : Problem) (plan other : List Action) → HoldPlan (Some files) d p q m plan →
+    HoldPlan (Some files) d p q n other → SameProblem m n × (plan ≡ other)
 plans_same laws files d p q m n plan other h k =
     stand_same laws.problems files (three_files d p role.Plan q) nothing nothing (a_plan m plan) (a_plan n other) tt
     (plan_in_turn (Some files) d p q m plan h) (plan_in_turn (Some files) d p q n other k)
 
-proofs_same : Laws → (files : Files) (d p q : List ℕ) (m n : Problem) (proof other : Proof) → HoldProof (Some files) d p q m proof → HoldProof (Some files) d p q n other → SameProblem m n × (proof ≡ other)
+proofs_same : Laws → (files : Files) (d p q : List ℕ) (m n : Problem) (proof other : Proof) → HoldProof (Some files) d p q m proof →
+    HoldProof (Some files) d p q n other → SameProblem m n × (proof ≡ other)
 proofs_same laws files d p q m n proof other h k =
     stand_same laws.problems files (three_files d p role.Proof q) nothing nothing (a_proof m proof) (a_proof n other) tt
     (proof_in_turn (Some files) d p q m proof h) (proof_in_turn (Some files) d p q n other k)
 
-costs_same : Laws → (files : Files) (d p q : List ℕ) (m n : Problem) (costs others : List ℕ) → HoldCosts (Some files) d p q m costs → HoldCosts (Some files) d p q n others → SameProblem m n × (costs ≡ others)
+costs_same : Laws → (files : Files) (d p q : List ℕ) (m n : Problem) (costs others : List ℕ) → HoldCosts (Some files) d p q m costs →
+    HoldCosts (Some files) d p q n others → SameProblem m n × (costs ≡ others)
 costs_same laws files d p q m n costs others h k =
     stand_same laws.problems files (three_files d p role.Costs q) nothing nothing (some_costs m costs) (some_costs n others) tt
     (costs_in_turn (Some files) d p q m costs h) (costs_in_turn (Some files) d p q n others k)
 
-loops_same : Laws → (files : Files) (d p q : List ℕ) (m n : Problem) (plan other : LoopPlan) → HoldLoop (Some files) d p q m plan → HoldLoop (Some files) d p q n other → SameProblem m n × (plan ≡ other)
+loops_same : Laws → (files : Files) (d p q : List ℕ) (m n : Problem) (plan other : LoopPlan) → HoldLoop (Some files) d p q m plan →
+    HoldLoop (Some files) d p q n other → SameProblem m n × (plan ≡ other)
 loops_same laws files d p q m n plan other h k =
     stand_same laws.problems files (three_files d p role.Loop q) nothing nothing (a_loop m plan) (a_loop n other) tt
     (loop_in_turn (Some files) d p q m plan h) (loop_in_turn (Some files) d p q n other k)
 
-samples_same : Laws → (balls : ℕ) (m n : Problem) → StandForProblem domain_text (problem_text balls) m → StandForProblem domain_text (problem_text balls) n → SameProblem m n
-samples_same laws balls m n h k = sample_one laws.problems balls (a_problem m) (a_problem n) (sample_in_turn balls m h) (sample_in_turn balls n k)
+samples_same : Laws → (balls : ℕ) (m n : Problem) → StandForProblem domain_text (problem_text balls) m →
+    StandForProblem domain_text (problem_text balls) n → SameProblem m n
+samples_same laws balls m n h k = sample_one laws.problems balls (a_problem m) (a_problem n) (sample_in_turn balls m h)
+    (sample_in_turn balls n k)
 
 -- two right answers over the same files: one line for each command
-right_agrees : Laws → (files : Files) (c : Command) (status given : Status) (text lines : List ℕ) → Answers false (Some files) c status text → Answers true (Some files) c given lines → Agrees c status text given lines
+right_agrees : Laws → (files : Files) (c : Command) (status given : Status) (text lines : List ℕ) →
+    Answers false (Some files) c status text → Answers true (Some files) c given lines → Agrees c status text given lines
 right_agrees laws files (check d p q) status given text lines h k =
     let same = plans_same laws files d p q h.0 k.0 h.1 k.1 h.2 k.2 in
     check_agrees laws.verdicts (check d p q) status given text lines h.0 k.0 h.1 k.1 same.0 same.1 h.3 k.3
@@ -144,7 +159,8 @@ right_agrees laws files (check_loop d p q) status given text lines h k =
     check_loop_agrees laws.loop_verdicts (check_loop d p q) status given text lines h.0 k.0 h.1 k.1 same.0 same.1 h.3 k.3
 
 -- files of which an answer is right all pass: one line for each command
-right_passes : (fits : Bool) (files : Files) (c : Command) (status : Status) (text : List ℕ) → Answers fits (Some files) c status text → (x : Input) × HoldInput (Some files) c x
+right_passes : (fits : Bool) (files : Files) (c : Command) (status : Status) (text : List ℕ) → Answers fits (Some files) c status text →
+    (x : Input) × HoldInput (Some files) c x
 right_passes fits files (check d p q) status text h = (a_plan h.0 h.1, plan_in_turn (Some files) d p q h.0 h.1 h.2)
 right_passes fits files (search s d p) status text h = (a_problem h.0, problem_in_turn (Some files) d p h.0 h.1)
 right_passes fits files (trace s d p) status text h = (a_problem h.0, problem_in_turn (Some files) d p h.0 h.1)
@@ -156,27 +172,35 @@ right_passes fits files (cheapest b d p k) status text h = (some_costs h.0 h.1, 
 right_passes fits files (check_loop d p q) status text h = (a_loop h.0 h.1, loop_in_turn (Some files) d p q h.0 h.1 h.2)
 
 -- and none of them is refused
-not_both : Laws → (fits : Bool) (files : Files) (c : Command) (status : Status) (text : List ℕ) (number : ℕ) (m : Broken) (given : Status) (lines : List ℕ) → Answers fits (Some files) c status text → Refuses (Some files) c number m given lines → ⊥
+not_both : Laws → (fits : Bool) (files : Files) (c : Command) (status : Status) (text : List ℕ) (number : ℕ) (m : Broken) (given : Status)
+    (lines : List ℕ) → Answers fits (Some files) c status text → Refuses (Some files) c number m given lines → ⊥
 not_both laws fits files c status text number m given lines h k =
     let passes = right_passes fits files c status text h in
     no_refusal laws.problems files c passes.0 number m passes.1 k.0
 
-refusals_agree : Laws → (files : Files) (c : Command) (i j : ℕ) (m n : Broken) (status given : Status) (text lines : List ℕ) → Refuses (Some files) c i m status text → Refuses (Some files) c j n given lines → Agrees c status text given lines
+refusals_agree : Laws → (files : Files) (c : Command) (i j : ℕ) (m n : Broken) (status given : Status) (text lines : List ℕ) →
+    Refuses (Some files) c i m status text → Refuses (Some files) c j n given lines → Agrees c status text given lines
 refusals_agree laws files c i j m n status given text lines h k =
     let one = one_refusal laws.problems files c i j m n h.0 k.0 in
     inl (k.1 ∙ sym h.1, inl (k.2 ∙ (λ t. refusal_text (sym one.0 t) (sym one.1 t)) ∙ sym h.2))
 
 -- an answer that is allowed agrees with the one that is given
-told_agree : Laws → (files : Files) (c : Command) (told : CallsTold) (status given : Status) (text lines : List ℕ) → Allows (Some files) c status text → IsAnswer (Some files) c told given lines → Agrees c status text given lines
+told_agree : Laws → (files : Files) (c : Command) (told : CallsTold) (status given : Status) (text lines : List ℕ) →
+    Allows (Some files) c status text → IsAnswer (Some files) c told given lines → Agrees c status text given lines
 told_agree laws files c told status given text lines (inl h) (inl k) = right_agrees laws files c status given text lines h k
-told_agree laws files c told status given text lines (inl h) (inr k) = absurd (not_both laws false files c status text k.0 k.1 given lines h k.2)
-told_agree laws files c told status given text lines (inr h) (inl k) = absurd (not_both laws true files c given lines h.0 h.1 status text k h.2)
-told_agree laws files c told status given text lines (inr h) (inr k) = refusals_agree laws files c h.0 k.0 h.1 k.1 status given text lines h.2 k.2
+told_agree laws files c told status given text lines (inl h) (inr k) =
+    absurd (not_both laws false files c status text k.0 k.1 given lines h k.2)
+told_agree laws files c told status given text lines (inr h) (inl k) =
+    absurd (not_both laws true files c given lines h.0 h.1 status text k h.2)
+told_agree laws files c told status given text lines (inr h) (inr k) =
+    refusals_agree laws files c h.0 k.0 h.1 k.1 status given text lines h.2 k.2
 
 -- a sample, which reads no file, may be taken to be over any files
-only_answer : Laws → (files : Option Files) (c : Command) (told : CallsTold) (given : Status) (lines : List ℕ) → IsAnswer files c told given lines → AreTold files c → IsOnlyAnswer files c given lines
+only_answer : Laws → (files : Option Files) (c : Command) (told : CallsTold) (given : Status) (lines : List ℕ) →
+    IsAnswer files c told given lines → AreTold files c → IsOnlyAnswer files c given lines
 only_answer laws (Some files) c told given lines k are = λ status text h. told_agree laws files c told status given text lines h k
-only_answer laws None (sample m) told given lines k are = λ status text h. told_agree laws (dict.from_entries []) (sample m) told status given text lines h k
+only_answer laws None (sample m) told given lines k are = λ status text h.
+    told_agree laws (dict.from_entries []) (sample m) told status given text lines h k
 only_answer laws None c told given lines k are = absurd (true≢false (sym are))
 
 -- files whose command is calm all pass: one line for each command
@@ -192,7 +216,8 @@ calm_passes files (cheapest b d p k) calm = (some_costs calm.0 calm.1, costs_in_
 calm_passes files (check_loop d p q) calm = (a_loop calm.0 calm.1, loop_in_turn (Some files) d p q calm.0 calm.1 calm.2)
 
 -- right answers where nothing past range is looked at: one line for each command
-right_calm : Laws → (files : Files) (c : Command) (status : Status) (text : List ℕ) → IsCalmCommand (Some files) c → Answers true (Some files) c status text → IsOwn status
+right_calm : Laws → (files : Files) (c : Command) (status : Status) (text : List ℕ) → IsCalmCommand (Some files) c →
+    Answers true (Some files) c status text → IsOwn status
 right_calm laws files (check d p q) status text calm h =
     let same = plans_same laws files d p q calm.0 h.0 calm.1 h.1 calm.2 h.2 in
     check_calm status text calm.0 h.0 calm.1 h.1 same.0 same.1 calm.3 h.3
@@ -219,20 +244,23 @@ right_calm laws files (check_loop d p q) status text calm h =
     check_loop_calm status text calm.0 h.0 calm.1 h.1 same.0 same.1 calm.3 h.3
 
 -- where nothing past range is looked at and there is room, an answer is what the command finds
-told_calm : Laws → (files : Files) (c : Command) (told : CallsTold) (status : Status) (text : List ℕ) → IsCalmCommand (Some files) c → IsAnswer (Some files) c told status text → IsOwn status
+told_calm : Laws → (files : Files) (c : Command) (told : CallsTold) (status : Status) (text : List ℕ) → IsCalmCommand (Some files) c →
+    IsAnswer (Some files) c told status text → IsOwn status
 told_calm laws files c told status text calm (inl h) = right_calm laws files c status text calm h
 told_calm laws files c told status text calm (inr h) =
     let passes = calm_passes files c calm in
     let refuses = h.2 in
     absurd (no_refusal laws.problems files c passes.0 h.0 h.1 passes.1 refuses.0)
 
-calm_answer : Laws → (files : Option Files) (c : Command) (told : CallsTold) (status : Status) (text : List ℕ) → IsAnswer files c told status text → AreTold files c → IsCalmCommand files c → IsOwn status
+calm_answer : Laws → (files : Option Files) (c : Command) (told : CallsTold) (status : Status) (text : List ℕ) →
+    IsAnswer files c told status text → AreTold files c → IsCalmCommand files c → IsOwn status
 calm_answer laws (Some files) c told status text h are calm = told_calm laws files c told status text calm h
 calm_answer laws None (sample m) told status text h are calm = told_calm laws (dict.from_entries []) (sample m) told status text calm h
 calm_answer laws None c told status text h are calm = absurd (true≢false (sym are))
 
 -- an answer that the files allow is one of which all this holds
-pub rightly : Laws → (files : Option Files) (c : Command) (told : CallsTold) (status : Status) (text : List ℕ) → IsAnswer files c told status text → AnswersRightly files c told status text
+pub rightly : Laws → (files : Option Files) (c : Command) (told : CallsTold) (status : Status) (text : List ℕ) →
+    IsAnswer files c told status text → AnswersRightly files c told status text
 rightly laws files c told status text h = record {
   allowed = h;
   headline = headline_of laws files c told status text h;

@@ -29,7 +29,8 @@ unproved_done outcome.NoPlan = tt
 unproved_done outcome.NoneWithin = tt
 unproved_done outcome.Spent = tt
 
-pub prove_none_done : (fits : Bool) (s : Search) (status : Status) (text : List ℕ) (m : Problem) → ProvesNone fits s status text m → IsDone status
+pub prove_none_done : (fits : Bool) (s : Search) (status : Status) (text : List ℕ) (m : Problem) → ProvesNone fits s status text m →
+    IsDone status
 prove_none_done fits s status text m (inl h) = subst IsDone (sym h.status_is) tt
 prove_none_done fits s status text m (inr (inl h)) = subst IsDone (sym h.status_is) (unproved_done h.what)
 prove_none_done fits s status text m (inr (inr h)) = subst IsDone (sym h.3) tt
@@ -50,7 +51,8 @@ one_bound n outcome.NoneWithin outcome.Spent b c h k one = absurd k
 one_bound n outcome.Spent u b c h k one = absurd h
 
 -- where one right outcome leaves a proof and another none, that one is spent
-proof_gives_way : (n : ℕ) (o u : Outcome) (b : Option ℕ) → IsBoundOf n o b → LeavesNoProof u → IsOneOrYields o u → GivesWay Yes (unproved_status u)
+proof_gives_way : (n : ℕ) (o u : Outcome) (b : Option ℕ) → IsBoundOf n o b → LeavesNoProof u → IsOneOrYields o u →
+    GivesWay Yes (unproved_status u)
 proof_gives_way n (outcome.Plan x) u b h leaves one = absurd h
 proof_gives_way n outcome.NoPlan (outcome.Plan y) b h leaves (inl e) = absurd (let z : ⊥ = cc in z)
 proof_gives_way n outcome.NoPlan (outcome.Plan y) b h leaves (inr k) = absurd k
@@ -64,7 +66,8 @@ proof_gives_way n outcome.NoneWithin outcome.NoneWithin b h leaves one = absurd 
 proof_gives_way n outcome.NoneWithin outcome.Spent b h leaves one = tt
 proof_gives_way n outcome.Spent u b h leaves one = absurd h
 
-gives_way_to_proof : (n : ℕ) (o u : Outcome) (b : Option ℕ) → LeavesNoProof o → IsBoundOf n u b → IsOneOrYields o u → GivesWay (unproved_status o) Yes
+gives_way_to_proof : (n : ℕ) (o u : Outcome) (b : Option ℕ) → LeavesNoProof o → IsBoundOf n u b → IsOneOrYields o u →
+    GivesWay (unproved_status o) Yes
 gives_way_to_proof n (outcome.Plan x) (outcome.Plan y) b leaves k one = absurd k
 gives_way_to_proof n (outcome.Plan x) outcome.NoPlan b leaves k (inl e) = absurd (let z : ⊥ = cc in z)
 gives_way_to_proof n (outcome.Plan x) outcome.NoPlan b leaves k (inr y) = absurd y
@@ -76,7 +79,8 @@ gives_way_to_proof n outcome.NoneWithin u b leaves k one = absurd leaves
 gives_way_to_proof n outcome.Spent u b leaves k one = tt
 
 -- of two right outcomes without a proof that differ, one is spent
-both_give_way : (o u : Outcome) → LeavesNoProof o → LeavesNoProof u → GivesWay (outcome_status o) (outcome_status u) → GivesWay (unproved_status o) (unproved_status u)
+both_give_way : (o u : Outcome) → LeavesNoProof o → LeavesNoProof u → GivesWay (outcome_status o) (outcome_status u) →
+    GivesWay (unproved_status o) (unproved_status u)
 both_give_way (outcome.Plan x) (outcome.Plan y) h k way = absurd way
 both_give_way (outcome.Plan x) outcome.NoPlan h k way = absurd k
 both_give_way (outcome.Plan x) outcome.NoneWithin h k way = absurd k
@@ -94,12 +98,14 @@ Right fits s m o = IsOutcome s (plain_problem m) o × LeavesNoProof o × (IsTrue
 abbrev lines_of : Search → Problem → Outcome → List ℕ
 lines_of s m o = outcome_text m.names m.domain.operators s.within s.nodes o
 
-module _ (laws : Laws) (s : Search) (d p : List ℕ) (status given : Status) (text lines : List ℕ) (m n : Problem) (same : SameProblem m n) where
+module _ (laws : Laws) (s : Search) (d p : List ℕ) (status given : Status) (text lines : List ℕ) (m n : Problem)
+    (same : SameProblem m n) where
   both_proofs : GivesProof false s status text m → GivesProof true s given lines n → Agrees (prove_none s d p) status text given lines
   both_proofs h k =
       let c : IsCertificate s (plain_problem m) h.what = h.right.0 in
       let o : IsCertificate s (plain_problem n) k.what = k.right.0 in
-      let one = one_bound s.within c.ended o.ended h.what.bound k.what.bound c.bound o.bound (outcomes_of_one laws s m n c.ended o.ended same c.right o.right) in
+      let one = one_bound s.within c.ended o.ended h.what.bound k.what.bound c.bound o.bound
+      (outcomes_of_one laws s m n c.ended o.ended same c.right o.right) in
       inl (
         k.status_is ∙ sym h.status_is,
         inr (
@@ -129,35 +135,48 @@ module _ (laws : Laws) (s : Search) (d p : List ℕ) (status given : Status) (te
   both_none : GivesNoProof false s status text m → GivesNoProof true s given lines n → Agrees (prove_none s d p) status text given lines
   both_none h k =
       elim (outcomes_of_one laws s m n h.what k.what same h.right.0 k.right.0) [
-        | inl is ↦ same_given (prove_none s d p) (Right false s m) (Right true s n) unproved_status (lines_of s m) (lines_of s n) status given text lines h k is (same_outcome_lines s m n h.what same)
-        | inr way ↦ gives_way (prove_none s d p) status given (unproved_status h.what) (unproved_status k.what) text lines h.status_is k.status_is
+        | inl is ↦ same_given (prove_none s d p) (Right false s m) (Right true s n) unproved_status (lines_of s m)
+            (lines_of s n) status given text lines h k is (same_outcome_lines s m n h.what same)
+        | inr way ↦ gives_way (prove_none s d p) status given (unproved_status h.what)
+            (unproved_status k.what) text lines h.status_is k.status_is
             (both_give_way h.what k.what h.right.1 k.right.1 way)
       ]
 
 -- of two right answers over the same problem each agrees with the other
-pub prove_none_agrees : Laws → (s : Search) (d p : List ℕ) (status given : Status) (text lines : List ℕ) (m n : Problem) → SameProblem m n → ProvesNone false s status text m → ProvesNone true s given lines n → Agrees (prove_none s d p) status text given lines
+pub prove_none_agrees : Laws → (s : Search) (d p : List ℕ) (status given : Status) (text lines : List ℕ) (m n : Problem) → SameProblem m n →
+    ProvesNone false s status text m → ProvesNone true s given lines n → Agrees (prove_none s d p) status text given lines
 prove_none_agrees laws s d p status given text lines m n same (inl h) (inl k) = both_proofs laws s d p status given text lines m n same h k
-prove_none_agrees laws s d p status given text lines m n same (inl h) (inr (inl k)) = proof_then_none laws s d p status given text lines m n same h k
-prove_none_agrees laws s d p status given text lines m n same (inr (inl h)) (inl k) = none_then_proof laws s d p status given text lines m n same h k
-prove_none_agrees laws s d p status given text lines m n same (inr (inl h)) (inr (inl k)) = both_none laws s d p status given text lines m n same h k
-prove_none_agrees laws s d p status given text lines m n same h (inr (inr k)) = to_range (prove_none s d p) status given text lines (prove_none_done false s status text m h) k.3
-prove_none_agrees laws s d p status given text lines m n same (inr (inr h)) k = from_range (prove_none s d p) status given text lines h.3 (prove_none_done true s given lines n k)
+prove_none_agrees laws s d p status given text lines m n same (inl h) (inr (inl k)) =
+    proof_then_none laws s d p status given text lines m n same h k
+prove_none_agrees laws s d p status given text lines m n same (inr (inl h)) (inl k) =
+    none_then_proof laws s d p status given text lines m n same h k
+prove_none_agrees laws s d p status given text lines m n same (inr (inl h)) (inr (inl k)) =
+    both_none laws s d p status given text lines m n same h k
+prove_none_agrees laws s d p status given text lines m n same h (inr (inr k)) =
+    to_range (prove_none s d p) status given text lines (prove_none_done false s status text m h) k.3
+prove_none_agrees laws s d p status given text lines m n same (inr (inr h)) k =
+    from_range (prove_none s d p) status given text lines h.3 (prove_none_done true s given lines n k)
 
-unproved_says : (files : Option Files) (s : Search) (d p : List ℕ) (m : Problem) (o : Outcome) (text : List ℕ) → HoldProblem files d p m → IsOutcome s (plain_problem m) o → LeavesNoProof o → text ≡ outcome_text m.names m.domain.operators s.within s.nodes o → Headline files (prove_none s d p) (unproved_status o) text
+unproved_says : (files : Option Files) (s : Search) (d p : List ℕ) (m : Problem) (o : Outcome) (text : List ℕ) → HoldProblem files d p m →
+    IsOutcome s (plain_problem m) o → LeavesNoProof o → text ≡ outcome_text m.names m.domain.operators s.within s.nodes o →
+    Headline files (prove_none s d p) (unproved_status o) text
 unproved_says files s d p m (outcome.Plan plan) text stand right leaves line = (m, stand, prints_plan s m plan text right line)
 unproved_says files s d p m outcome.NoPlan text stand right leaves line = absurd leaves
 unproved_says files s d p m outcome.NoneWithin text stand right leaves line = absurd leaves
 unproved_says files s d p m outcome.Spent text stand right leaves line = tt
 
 -- what the headline says of a right answer
-pub prove_none_says : Laws → (files : Option Files) (s : Search) (d p : List ℕ) (status : Status) (text : List ℕ) (m : Problem) → HoldProblem files d p m → ProvesNone true s status text m → Headline files (prove_none s d p) status text
+pub prove_none_says : Laws → (files : Option Files) (s : Search) (d p : List ℕ) (status : Status) (text : List ℕ) (m : Problem) →
+    HoldProblem files d p m → ProvesNone true s status text m → Headline files (prove_none s d p) status text
 prove_none_says laws files s d p status text m stand (inl h) =
     let c : IsCertificate s (plain_problem m) h.what = h.right.0 in
     subst (λ (x : Status). Headline files (prove_none s d p) x text) (sym h.status_is)
     (m, stand, record { proof = h.what; lines = h.text_is; covers = c.covers; none = laws.covered (plain_problem m) h.what c.covers })
 prove_none_says laws files s d p status text m stand (inr (inl h)) =
-    subst (λ (x : Status). Headline files (prove_none s d p) x text) (sym h.status_is) (unproved_says files s d p m h.what text stand h.right.0 h.right.1 h.text_is)
-prove_none_says laws files s d p status text m stand (inr (inr h)) = subst (λ (x : Status). Headline files (prove_none s d p) x text) (sym h.3) tt
+    subst (λ (x : Status). Headline files (prove_none s d p) x text) (sym h.status_is)
+    (unproved_says files s d p m h.what text stand h.right.0 h.right.1 h.text_is)
+prove_none_says laws files s d p status text m stand (inr (inr h)) = subst (λ (x : Status). Headline files (prove_none s d p) x text)
+    (sym h.3) tt
 
 unproved_is_own : (o : Outcome) → LeavesNoProof o → IsOwn (outcome_status o) → IsOwn (unproved_status o)
 unproved_is_own (outcome.Plan plan) leaves own = tt
@@ -166,7 +185,8 @@ unproved_is_own outcome.NoneWithin leaves own = absurd leaves
 unproved_is_own outcome.Spent leaves own = absurd own
 
 -- where nothing past range is looked at, and there are few search nodes, every right answer is a proof or a plan
-pub prove_none_calm : Laws → (s : Search) (status : Status) (text : List ℕ) (m n : Problem) → SameProblem m n → HasCalmSearch s m → ProvesNone true s status text n → IsOwn status
+pub prove_none_calm : Laws → (s : Search) (status : Status) (text : List ℕ) (m n : Problem) → SameProblem m n → HasCalmSearch s m →
+    ProvesNone true s status text n → IsOwn status
 prove_none_calm laws s status text m n same few (inl h) = subst IsOwn (sym h.status_is) tt
 prove_none_calm laws s status text m n same few (inr (inl h)) =
     subst IsOwn (sym h.status_is) (unproved_is_own h.what h.right.1 (own_outcome laws s m n h.what same few h.right.0))

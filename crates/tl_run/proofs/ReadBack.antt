@@ -1,5 +1,6 @@
 -- Plans and proofs that are printed can be written, and so are read back from their lines.
-use Rattle.std.proofs.Common.{◌≡◌, ◌⊎◌, inl, inr, ℕ, ℤ, zero, suc, ◌<◌, ◌≤◌, List, [], ◌∷◌, ◌++◌, length, map, slice_get, true, false, true≢false, not, Option, Some, None, IsTrue, Less, Equal, refl, sym, ap, ◌∙◌, subst, arith}
+use Rattle.std.proofs.Common.{◌≡◌, ◌⊎◌, inl, inr, ℕ, ℤ, zero, suc, ◌<◌, ◌≤◌, List, [], ◌∷◌, ◌++◌, length, map, slice_get, true, false}
+use Rattle.std.proofs.Common.{true≢false, not, Option, Some, None, IsTrue, Less, Equal, refl, sym, ap, ◌∙◌, subst, arith}
 use Rattle.std.specs.Prelude.{◌≢◌, get_or, unwrap_or}
 use Rattle.std.specs.Option.{option_map, option_map_or}
 use Rattle.std.specs.Ordering.{nat_cmp}
@@ -60,7 +61,8 @@ use Rattle.tl_run.specs.Over.{HoldProblem, HoldThird, StandForProblem}
 use Rattle.tl_run.specs.Plan.{IsOutcome}
 use Rattle.tl_run.specs.Promises.{IsAnswer}
 use Rattle.tl_run.specs.ProveNone.{IsBoundOf, IsCertificate, LeavesNoProof, unproved_status}
-use Rattle.tl_run.specs.ReadBack.{AreBytesOf, ExecutedPlansAreReadBack, IsProofFile, IsValidFile, PrintedPlansAreValid, PrintedProofsAreProved}
+use Rattle.tl_run.specs.ReadBack.{AreBytesOf, ExecutedPlansAreReadBack, IsProofFile, IsValidFile, PrintedPlansAreValid}
+use Rattle.tl_run.specs.ReadBack.{PrintedProofsAreProved}
 use Rattle.tl_run.specs.Turns.{CallsTold}
 use Rattle.tl_run.proofs.NamedPlans.{IsOfOperator, states_take, step_takes}
 use Rattle.tl_run.proofs.OneOutcome.{plan_within}
@@ -90,36 +92,50 @@ each-at P (y ∷ xs) (suc i) x h q = each-at P xs i x h.1 q
 
 -- ---- names, values and actions that can be written
 
-text-writable : (names : List (List ℕ)) (n : ℕ) (text : List ℕ) → Each IsSymbolText names → slice_get names n ≡ Some text → IsWritableName names n
+text-writable : (names : List (List ℕ)) (n : ℕ) (text : List ℕ) → Each IsSymbolText names → slice_get names n ≡ Some text →
+    IsWritableName names n
 text-writable names n text texts at = record {
   within = slice_get_within names n text at;
   symbol = subst IsSymbolText (ap (λ (o : Option (List ℕ)). unwrap_or o []) (sym at)) (each-at IsSymbolText names n text texts at);
 }
 
-value-writable : (names : List (List ℕ)) (v : Value) → Each IsSymbolText names → is_constant names v ≡ true → ValueFits v → IsWritableValue names v
+value-writable : (names : List (List ℕ)) (v : Value) → Each IsSymbolText names → is_constant names v ≡ true → ValueFits v →
+    IsWritableValue names v
 value-writable names (Int z) texts constant fits = fits
 value-writable names (Sym n) texts constant fits = by-text (slice_get names n) refl constant
   where
-    by-text : (found : Option (List ℕ)) → slice_get names n ≡ found → option_map_or (λ text. not (is_variable text)) found false ≡ true → IsWritableValue names (Sym n)
+    by-text : (found : Option (List ℕ)) → slice_get names n ≡ found → option_map_or (λ text. not (is_variable text)) found false ≡ true →
+        IsWritableValue names (Sym n)
     by-text None at test = absurd (true≢false (sym test))
-    by-text (Some text) at test = (text-writable names n text texts at, ap (λ (o : Option (List ℕ)). is_variable (unwrap_or o [])) at ∙ not-true (is_variable text) test)
+    by-text (Some text) at test = (
+      text-writable names n text texts at,
+      ap (λ (o : Option (List ℕ)). is_variable (unwrap_or o [])) at ∙
+          not-true (is_variable text) test,
+    )
 
-values-writable : (names : List (List ℕ)) (vs : List Value) → Each IsSymbolText names → ValuesPass (is_constant names) vs → Each ValueFits vs → Each (IsWritableValue names) vs
+values-writable : (names : List (List ℕ)) (vs : List Value) → Each IsSymbolText names → ValuesPass (is_constant names) vs →
+    Each ValueFits vs → Each (IsWritableValue names) vs
 values-writable names [] texts constants fit = tt
-values-writable names (v ∷ vs) texts constants fit = (value-writable names v texts constants.0 fit.0, values-writable names vs texts constants.1 fit.1)
+values-writable names (v ∷ vs) texts constants fit = (
+  value-writable names v texts constants.0 fit.0,
+  values-writable names vs texts constants.1 fit.1,
+)
 
 module _ (p : Problem) (can : HasWritableNames p) where
   abbrev Keeps : Operator → Type 0
   Keeps o = OperatorKeeps (signature_of p.domain) (length p.names) o
 
-  taken : (os : List Operator) (i n : ℕ) → Each Keeps os → Takes (map (λ o. length o.params) os) i n → (o : Operator) × (slice_get os i ≡ Some o) × Keeps o × (length o.params ≡ n)
+  taken : (os : List Operator) (i n : ℕ) → Each Keeps os → Takes (map (λ o. length o.params) os) i n → (o : Operator) ×
+      (slice_get os i ≡ Some o) × Keeps o × (length o.params ≡ n)
   taken [] i n k q = absurd (none-some n q)
   taken (o ∷ os) zero n k q = (o, refl, k.0, same_Some (length o.params) n q)
   taken (o ∷ os) (suc i) n k q = taken os i n k.1 q
 
-  action-writable : (a : Action) → IsOfOperator (plain_problem p) a → ValuesPass (is_constant p.names) a.args → ArgumentsFit a → IsWritable p.names p.domain.operators a
+  action-writable : (a : Action) → IsOfOperator (plain_problem p) a → ValuesPass (is_constant p.names) a.args → ArgumentsFit a →
+      IsWritable p.names p.domain.operators a
   action-writable a takes constants fit =
-      let at = taken p.domain.operators a.op (length a.args) p.domain_keeps.operators (subst (λ (counts : List ℕ). Takes counts a.op (length a.args)) (counts_seen p) takes) in
+      let at = taken p.domain.operators a.op (length a.args) p.domain_keeps.operators
+      (subst (λ (counts : List ℕ). Takes counts a.op (length a.args)) (counts_seen p) takes) in
       let keeps = at.2 in
       record {
         operator = at.0;
@@ -129,12 +145,18 @@ module _ (p : Problem) (can : HasWritableNames p) where
         args = values-writable p.names a.args can.names constants fit;
       }
 
-  actions-writable : (plan : List Action) → Each (IsOfOperator (plain_problem p)) plan → Each (λ a. ValuesPass (is_constant p.names) a.args) plan → Each ArgumentsFit plan → Each (IsWritable p.names p.domain.operators) plan
+  actions-writable : (plan : List Action) → Each (IsOfOperator (plain_problem p)) plan →
+      Each (λ a. ValuesPass (is_constant p.names) a.args) plan → Each ArgumentsFit plan → Each (IsWritable p.names p.domain.operators) plan
   actions-writable [] takes constants fit = tt
-  actions-writable (a ∷ plan) takes constants fit = (action-writable a takes.0 constants.0 fit.0, actions-writable plan takes.1 constants.1 fit.1)
+  actions-writable (a ∷ plan) takes constants fit = (
+    action-writable a takes.0 constants.0 fit.0,
+    actions-writable plan takes.1 constants.1 fit.1,
+  )
 
-  plan-writable : (plan : List Action) (ws : List World) → states (plain_problem p) plan ≡ Some ws → Each ArgumentsFit plan → Each (IsWritable p.names p.domain.operators) plan
-  plan-writable plan ws e fit = actions-writable plan (states_take step-exactly (plain_problem p) (plain_problem p).first plan ws e) (arguments-of-executed-pass p (is_constant p.names) plan ws (λ z. refl) can.values e) fit
+  plan-writable : (plan : List Action) (ws : List World) → states (plain_problem p) plan ≡ Some ws → Each ArgumentsFit plan →
+      Each (IsWritable p.names p.domain.operators) plan
+  plan-writable plan ws e fit = actions-writable plan (states_take step-exactly (plain_problem p) (plain_problem p).first plan ws e)
+      (arguments-of-executed-pass p (is_constant p.names) plan ws (λ z. refl) can.values e) fit
 
   -- ---- the links of a proof: each action has a step in the world of a listed node
 
@@ -150,14 +172,18 @@ module _ (p : Problem) (can : HasWritableNames p) where
   world-in x v y q = ap (λ (z : Pair). z.world) q
 
   -- the action of a good link can be written, and the world that it leads to passes
-  link-writable : (bound : Option ℕ) (listed : List KeptPair) (link : Link) (next : KeptPair) → Each NodePasses listed → IsGood (plain_problem p) bound listed link next → ArgumentsFit link.action → IsWritable p.names p.domain.operators link.action × NodePasses next
+  link-writable : (bound : Option ℕ) (listed : List KeptPair) (link : Link) (next : KeptPair) → Each NodePasses listed →
+      IsGood (plain_problem p) bound listed link next → ArgumentsFit link.action → IsWritable p.names p.domain.operators link.action ×
+      NodePasses next
   link-writable bound listed link next pass good fit =
       let test = is_constant p.names in
       let whole : (z : ℤ) → IsTrue (is_constant p.names (Int z)) = λ z. refl in
       let from = each-at NodePasses listed link.from good.from pass good.is_from in
-      let led = stepped (pair_in (plain_problem p) good.from.node.formula) (step (plain_problem p) good.from.node.world link.action) next.node good.leads in
+      let led = stepped (pair_in (plain_problem p) good.from.node.formula)
+      (step (plain_problem p) good.from.node.world link.action) next.node good.leads in
       let world = world-in good.from.node led.0 next.node led.2 in (
-        action-writable link.action (step_takes step-exactly (plain_problem p) good.from.node.world led.0 link.action led.1) (step-arguments test whole p can.values good.from.node.world led.0 link.action from led.1) fit,
+        action-writable link.action (step_takes step-exactly (plain_problem p) good.from.node.world led.0 link.action led.1)
+            (step-arguments test whole p can.values good.from.node.world led.0 link.action from led.1) fit,
         subst (WorldPasses test) world (step-passes test whole p can.values good.from.node.world led.0 link.action from led.1),
       )
 
@@ -165,7 +191,9 @@ module _ (p : Problem) (can : HasWritableNames p) where
   each-last P [] y h q = (q, tt)
   each-last P (x ∷ xs) y h q = (h.0, each-last P xs y h.1 q)
 
-  links-writable : (bound : Option ℕ) (old : List KeptPair) (links : List Link) (new : List KeptPair) → Each NodePasses old → AreGood (plain_problem p) bound old links new → Each (λ link. ArgumentsFit link.action) links → proof.AreWritable p.names p.domain.operators links
+  links-writable : (bound : Option ℕ) (old : List KeptPair) (links : List Link) (new : List KeptPair) → Each NodePasses old →
+      AreGood (plain_problem p) bound old links new → Each (λ link. ArgumentsFit link.action) links →
+      proof.AreWritable p.names p.domain.operators links
   links-writable bound old [] new pass good fit = tt
   links-writable bound old (link ∷ links) new pass good fit =
       let here = link-writable bound old link good.0 pass good.1 fit.0 in
@@ -175,24 +203,33 @@ module _ (p : Problem) (can : HasWritableNames p) where
   unfolding states_from
   root-world x q = ap (λ (y : Pair). y.world) (same_Some _ x q)
 
-  root-passes : (first : List KeptPair) (x : Pair) → pair_of (plain_problem p) [] ≡ Some x → ((x.formula ≡ falsum) × (first ≡ [])) ⊎ ((x.formula ≢ falsum) × (first ≡ record { node = x; path = [] } ∷ [])) → Each NodePasses first
+  root-passes : (first : List KeptPair) (x : Pair) → pair_of (plain_problem p) [] ≡ Some x → ((x.formula ≡ falsum) × (first ≡ [])) ⊎
+      ((x.formula ≢ falsum) × (first ≡ record { node = x; path = [] } ∷ [])) → Each NodePasses first
   root-passes first x q (inl h) = subst (Each NodePasses) (sym h.1) tt
-  root-passes first x q (inr h) = subst (Each NodePasses) (sym h.1) (subst (WorldPasses (is_constant p.names)) (root-world x q) (first-passes (is_constant p.names) p can.values), tt)
+  root-passes first x q (inr h) = subst (Each NodePasses) (sym h.1) (
+    subst (WorldPasses (is_constant p.names)) (root-world x q)
+        (first-passes (is_constant p.names) p can.values),
+    tt,
+  )
 
-  proof-writable : (certificate : Proof) → Covers (plain_problem p) certificate → Each (λ link. ArgumentsFit link.action) certificate.links → proof.AreWritable p.names p.domain.operators certificate.links
+  proof-writable : (certificate : Proof) → Covers (plain_problem p) certificate →
+      Each (λ link. ArgumentsFit link.action) certificate.links → proof.AreWritable p.names p.domain.operators certificate.links
   proof-writable certificate covers fit =
       let lists = covers.lists in
-      links-writable certificate.bound lists.0 certificate.links covers.listed (root-passes lists.0 lists.1.0 lists.1.1 lists.1.2) lists.2 fit
+      links-writable certificate.bound lists.0 certificate.links covers.listed
+      (root-passes lists.0 lists.1.0 lists.1.1 lists.1.2) lists.2 fit
 
 -- ---- the files
 
 writable-names : (domain problem : List ℕ) (p : Problem) → AreBytesOf domain problem p → HasWritableNames p
-writable-names domain problem p are = lawful-names-writable are.first are.second p (spelled_texts domain are.first are.first_spelled) (spelled_texts problem are.second are.second_spelled) are.files
+writable-names domain problem p are = lawful-names-writable are.first are.second p (spelled_texts domain are.first are.first_spelled)
+    (spelled_texts problem are.second are.second_spelled) are.files
 
 pub executed-plans-read-back : ExecutedPlansAreReadBack
 executed-plans-read-back domain problem p actions ws are e fit few =
     let can = writable-names domain problem p are in
-    plan-read-back p.names p.domain.operators actions (names-differ p.names p.settled) can.operators (plan-writable p can actions ws e fit) few
+    plan-read-back p.names p.domain.operators actions (names-differ p.names p.settled) can.operators
+    (plan-writable p can actions ws e fit) few
 
 -- the bytes of the files of a problem
 bytes_of : (domain problem : List ℕ) (m : Problem) → StandForProblem domain problem m → AreBytesOf domain problem m
@@ -202,13 +239,16 @@ bytes_of domain problem m both =
     record { first = both.first; second = both.second; first_spelled = first.spelled; second_spelled = second.spelled; files = both.files }
 
 -- the files allow a plan of them that is accepted, from its lines
-plan-valid : (files : Option Files) (d p q text : List ℕ) (s : Search) (m : Problem) (actions : List Action) → HoldProblem files d p m → IsOutcome s (plain_problem m) (outcome.Plan actions) → Each ArgumentsFit actions → text ≡ plan_text m.names m.domain.operators actions → s.within ≤ 100000 → length text ≤ 4194304 → IsContent files q text → IsValidFile files d p q text
+plan-valid : (files : Option Files) (d p q text : List ℕ) (s : Search) (m : Problem) (actions : List Action) → HoldProblem files d p m →
+    IsOutcome s (plain_problem m) (outcome.Plan actions) → Each ArgumentsFit actions → text ≡ plan_text m.names m.domain.operators actions →
+    s.within ≤ 100000 → length text ≤ 4194304 → IsContent files q text → IsValidFile files d p q text
 plan-valid files d p q text s m actions stand right fit lines limit short content =
     let within = plan_within s.mode s.within s.nodes (plain_problem m) actions right in
     let few : length actions ≤ s.within = within.short in
     let accepted = within.accepted in
     let are = bytes_of stand.domain stand.problem m stand.stand in
-    let back = executed-plans-read-back stand.domain stand.problem m actions (accepted.from ∷ accepted.after) are accepted.executes fit (omega (arith, few, limit)) in
+    let back = executed-plans-read-back stand.domain stand.problem m actions (accepted.from ∷ accepted.after) are accepted.executes fit
+    (omega (arith, few, limit)) in
     let spelled = subst (λ (bytes : List ℕ). Spells bytes back.forms) (sym lines) back.spelled in
     let third : HoldThird files q (plan_breaks m.names m.domain.operators) (plan_meant m.names m.domain.operators) actions = record {
       bytes = text;
@@ -220,9 +260,12 @@ plan-valid files d p q text s m actions stand right fit lines limit short conten
     } in
     (m, actions, (stand, third), (lines, accepted))
 
-module _ (files : Option Files) (s : Search) (d p q text : List ℕ) (told : CallsTold) (limit : s.within ≤ 100000) (short : length text ≤ 4194304) (content : IsContent files q text) where
-  outcome-valid : (m : Problem) (o : Outcome) → Yes ≡ outcome_status o → HoldProblem files d p m → IsOutcome s (plain_problem m) o → PlanFits o → text ≡ outcome_text m.names m.domain.operators s.within s.nodes o → IsValidFile files d p q text
-  outcome-valid m (outcome.Plan actions) done stand right fit lines = plan-valid files d p q text s m actions stand right fit lines limit short content
+module _ (files : Option Files) (s : Search) (d p q text : List ℕ) (told : CallsTold) (limit : s.within ≤ 100000)
+    (short : length text ≤ 4194304) (content : IsContent files q text) where
+  outcome-valid : (m : Problem) (o : Outcome) → Yes ≡ outcome_status o → HoldProblem files d p m → IsOutcome s (plain_problem m) o →
+      PlanFits o → text ≡ outcome_text m.names m.domain.operators s.within s.nodes o → IsValidFile files d p q text
+  outcome-valid m (outcome.Plan actions) done stand right fit lines = plan-valid files d p q text s m actions stand right fit lines limit
+      short content
   outcome-valid m outcome.NoPlan done stand right fit lines = absurd (let k : ⊥ = cc in k)
   outcome-valid m outcome.NoneWithin done stand right fit lines = absurd (let k : ⊥ = cc in k)
   outcome-valid m outcome.Spent done stand right fit lines = absurd (let k : ⊥ = cc in k)
@@ -232,8 +275,10 @@ module _ (files : Option Files) (s : Search) (d p q text : List ℕ) (told : Cal
   answer-valid (inl (m, stand, inr h)) = absurd (let e : Yes ≡ Range = h.3 in let k : ⊥ = cc in k)
   answer-valid (inr h) = let refuses = h.2 in absurd (let e : Yes ≡ Refused = refuses.1 in let k : ⊥ = cc in k)
 
-  unproved-valid : (m : Problem) (o : Outcome) → No ≡ unproved_status o → HoldProblem files d p m → IsOutcome s (plain_problem m) o → LeavesNoProof o → PlanFits o → text ≡ outcome_text m.names m.domain.operators s.within s.nodes o → IsValidFile files d p q text
-  unproved-valid m (outcome.Plan actions) done stand right leaves fit lines = plan-valid files d p q text s m actions stand right fit lines limit short content
+  unproved-valid : (m : Problem) (o : Outcome) → No ≡ unproved_status o → HoldProblem files d p m → IsOutcome s (plain_problem m) o →
+      LeavesNoProof o → PlanFits o → text ≡ outcome_text m.names m.domain.operators s.within s.nodes o → IsValidFile files d p q text
+  unproved-valid m (outcome.Plan actions) done stand right leaves fit lines =
+      plan-valid files d p q text s m actions stand right fit lines limit short content
   unproved-valid m outcome.NoPlan done stand right leaves fit lines = absurd leaves
   unproved-valid m outcome.NoneWithin done stand right leaves fit lines = absurd leaves
   unproved-valid m outcome.Spent done stand right leaves fit lines = absurd (let k : ⊥ = cc in k)
@@ -250,12 +295,16 @@ module _ (files : Option Files) (s : Search) (d p q text : List ℕ) (told : Cal
   bound-writable outcome.NoneWithin bound h = subst proof.IsBoundWritable (sym h) limit
   bound-writable outcome.Spent bound h = absurd h
 
-  certificate-proved : (m : Problem) (certificate : Proof) → HoldProblem files d p m → IsCertificate s (plain_problem m) certificate → LinksFit certificate.links → text ≡ proof_text m.names m.domain.operators certificate → IsProofFile files d p q text
+  certificate-proved : (m : Problem) (certificate : Proof) → HoldProblem files d p m → IsCertificate s (plain_problem m) certificate →
+      LinksFit certificate.links → text ≡ proof_text m.names m.domain.operators certificate → IsProofFile files d p q text
   certificate-proved m certificate stand right fit lines =
       let can = writable-names stand.domain stand.problem m (bytes_of stand.domain stand.problem m stand.stand) in
-      let back = proof-read-back m.names m.domain.operators certificate (names-differ m.names m.settled) can.operators (proof-writable m can certificate right.covers fit) right.order right.few (bound-writable right.ended certificate.bound right.bound) in
+      let back = proof-read-back m.names m.domain.operators certificate (names-differ m.names m.settled) can.operators
+      (proof-writable m can certificate right.covers fit) right.order right.few
+      (bound-writable right.ended certificate.bound right.bound) in
       let spelled = subst (λ (bytes : List ℕ). Spells bytes back.forms) (sym lines) back.spelled in
-      let third : HoldThird files q (proof_breaks m.names m.domain.operators) (proof_meant m.names m.domain.operators) certificate = record {
+      let third : HoldThird files q (proof_breaks m.names m.domain.operators) (proof_meant m.names m.domain.operators) certificate =
+      record {
         bytes = text;
         content = content;
         forms = back.forms;

@@ -6,7 +6,8 @@ use Rattle.std.proofs.lemmas.List.{length-map}
 use Rattle.tl_sexpr.specs.Tree.{FormTree, FormTrees, no_form, more_forms}
 use Rattle.tl_syntax.specs.declared.operator.Operator.{Operator}
 use Rattle.tl_rules.specs.Parts.{offset_of}
-use Rattle.tl_cost.specs.CostFiles.{cost_breaks, cost_meant, costs_breaks, costs_meant, entries_breaks, entry_breaks, entry_of_form, given_after, none_given, parts_breaks, parts_meant, with_entry}
+use Rattle.tl_cost.specs.CostFiles.{cost_breaks, cost_meant, costs_breaks, costs_meant, entries_breaks, entry_breaks, entry_of_form}
+use Rattle.tl_cost.specs.CostFiles.{given_after, none_given, parts_breaks, parts_meant, with_entry}
 use Rattle.tl_run.proofs.SameOperators.{head_of, same_operator}
 
 module _ (names : List (List ℕ)) (os us : List Operator) (alike : map head_of os ≡ map head_of us) where
@@ -16,7 +17,8 @@ module _ (names : List (List ℕ)) (os us : List Operator) (alike : map head_of 
   same_none : none_given os ≡ none_given us
   same_none = ap (λ (n : ℕ). let none : Option ℕ = None in replicate n none) same_count
 
-  same_parts : (given : List (Option ℕ)) (parts : Option (List ℕ × ℤ)) (at : ℕ) → parts_breaks names os given parts at ≡ parts_breaks names us given parts at
+  same_parts : (given : List (Option ℕ)) (parts : Option (List ℕ × ℤ)) (at : ℕ) → parts_breaks names os given parts at ≡
+      parts_breaks names us given parts at
   same_parts given None at = refl
   same_parts given (Some parts) at =
       let op = same_operator names os us alike parts.0 in
@@ -40,12 +42,14 @@ module _ (names : List (List ℕ)) (os us : List Operator) (alike : map head_of 
   same_entries given no_form = refl
   same_entries given (more_forms f fs) =
       let first = same_entry given f in
-      let rest = same_entries (with_entry names os given f) fs ∙ ap (λ (g : List (Option ℕ)). entries_breaks names us g fs) (same_with given f) in
+      let rest = same_entries (with_entry names os given f) fs ∙ ap (λ (g : List (Option ℕ)). entries_breaks names us g fs)
+      (same_with given f) in
       λ i. first i ++ rest i
 
   same_given : (given : List (Option ℕ)) (fs : FormTrees) → given_after names os given fs ≡ given_after names us given fs
   same_given given no_form = refl
-  same_given given (more_forms f fs) = same_given (with_entry names os given f) fs ∙ ap (λ (g : List (Option ℕ)). given_after names us g fs) (same_with given f)
+  same_given given (more_forms f fs) = same_given (with_entry names os given f) fs ∙
+      ap (λ (g : List (Option ℕ)). given_after names us g fs) (same_with given f)
 
   -- the same rules are broken
   pub same_costs_breaks : (fs : FormTrees) → costs_breaks names os fs ≡ costs_breaks names us fs
@@ -54,4 +58,5 @@ module _ (names : List (List ℕ)) (os us : List Operator) (alike : map head_of 
   -- and the same costs are meant
   pub same_costs_meant : (fs : FormTrees) → costs_meant names os fs ≡ costs_meant names us fs
   same_costs_meant fs =
-      ap (λ (given : List (Option ℕ)). map (λ (c : Option ℕ). unwrap_or c 1) given) (same_given (none_given os) fs ∙ ap (λ (g : List (Option ℕ)). given_after names us g fs) same_none)
+      ap (λ (given : List (Option ℕ)). map (λ (c : Option ℕ). unwrap_or c 1) given)
+      (same_given (none_given os) fs ∙ ap (λ (g : List (Option ℕ)). given_after names us g fs) same_none)

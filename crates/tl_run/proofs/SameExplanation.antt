@@ -24,17 +24,21 @@ lines_in : (ℕ → FormulaTree → List ℕ) → (Action → List ℕ) → Plai
 lines_in state act p k w f [] = end_line
 lines_in state act p k w f (a ∷ plan) =
     by_step (stopped_line (k + 1))
-    (λ v. act a ++ (state (k + 1) (progressed (situation_of p v) no_values f) ++ lines_in state act p (k + 1) v (progressed (situation_of p v) no_values f) plan))
+    (λ v. act a ++ (state (k + 1) (progressed (situation_of p v) no_values f) ++
+    lines_in state act p (k + 1) v (progressed (situation_of p v) no_values f) plan))
     (step p w a)
 
-by_lines : (p : Problem) (k : ℕ) (w : World) (f : FormulaTree) (plan : List Action) → lines_after p k w f plan ≡ lines_in (state_line p) (action_line p) (plain_problem p) k w f plan
+by_lines : (p : Problem) (k : ℕ) (w : World) (f : FormulaTree) (plan : List Action) → lines_after p k w f plan ≡
+    lines_in (state_line p) (action_line p) (plain_problem p) k w f plan
 unfolding lines_after lines_in
 by_lines p k w f [] = refl
 by_lines p k w f (a ∷ plan) = λ i.
-    by_step (stopped_line (k + 1)) (λ v. action_line p a ++ (state_line p (k + 1) (progressed_in p v f) ++ by_lines p (k + 1) v (progressed_in p v f) plan i)) (step (plain_problem p) w a)
+    by_step (stopped_line (k + 1)) (λ v. action_line p a ++ (state_line p (k + 1) (progressed_in p v f) ++
+    by_lines p (k + 1) v (progressed_in p v f) plan i)) (step (plain_problem p) w a)
 
 all_lines : (ℕ → FormulaTree → List ℕ) → (Action → List ℕ) → PlainProblem → List Action → List ℕ
-all_lines state act p plan = state 0 (progressed (situation_of p p.first) no_values p.control) ++ lines_in state act p 0 p.first (progressed (situation_of p p.first) no_values p.control) plan
+all_lines state act p plan = state 0 (progressed (situation_of p p.first) no_values p.control) ++
+    lines_in state act p 0 p.first (progressed (situation_of p p.first) no_values p.control) plan
 
 by_all_lines : (p : Problem) (plan : List Action) → explain_text p plan ≡ all_lines (state_line p) (action_line p) (plain_problem p) plan
 unfolding all_lines
@@ -52,11 +56,13 @@ module _ (p q : Problem) (same : SameProblem p q) where
   same_text : (a : Action) → action_text p.names p.domain.operators a ≡ action_text q.names q.domain.operators a
   same_text a =
       let name = same_name q.names p.domain.operators q.domain.operators same.heads a.op in
-      ap (λ names. action_text names p.domain.operators a) same.names ∙ (λ i. codes "(" ++ (name i ++ (values_text q.names a.args ++ codes ")")))
+      ap (λ names. action_text names p.domain.operators a) same.names ∙
+      (λ i. codes "(" ++ (name i ++ (values_text q.names a.args ++ codes ")")))
 
   same_act : (a : Action) → action_line p a ≡ action_line q a
   same_act a = ap (λ (text : List ℕ). text ++ codes "\n") (same_text a)
 
   -- the lines are the same
   pub same_explanation : (plan : List Action) → explain_text p plan ≡ explain_text q plan
-  same_explanation plan = by_all_lines p plan ∙ ((λ i. all_lines (λ k f. same_state k f i) (λ a. same_act a i) (same.meaning i) plan) ∙ sym (by_all_lines q plan))
+  same_explanation plan = by_all_lines p plan ∙ ((λ i. all_lines (λ k f. same_state k f i) (λ a. same_act a i) (same.meaning i) plan) ∙
+      sym (by_all_lines q plan))

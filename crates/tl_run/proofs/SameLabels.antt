@@ -6,7 +6,8 @@ use Rattle.std.specs.Option.{option_map}
 use Rattle.std.proofs.lemmas.Option.{slice_get-map}
 use Rattle.tl_label.specs.Labels.{definition_text, formula_text, formula_texts, label_text, label_of, variables_text}
 use Rattle.tl_label.specs.Parts.{in_parentheses}
-use Rattle.tl_label.specs.Terms.{arg_text, bound_text, comparison_text, declared_text, fact_text, goal_text, not_text, operation_text, place_text, term_text, term_texts}
+use Rattle.tl_label.specs.Terms.{arg_text, bound_text, comparison_text, declared_text, fact_text, goal_text, not_text, operation_text}
+use Rattle.tl_label.specs.Terms.{place_text, term_text, term_texts}
 use Rattle.tl_line.specs.ActionTexts.{values_text}
 use Rattle.tl_search.specs.KeptPairs.{KeptPair}
 use Rattle.tl_search.specs.declared.event.Event.{Event}
@@ -18,7 +19,9 @@ use Rattle.tl_syntax.specs.declared.declared.Declared.{Declared}
 use Rattle.tl_syntax.specs.declared.definition.Definition.{Definition}
 use Rattle.tl_syntax.specs.declared.domain.Domain.{Domain}
 use Rattle.tl_syntax.specs.declared.variable.Arg.{Arg}
-use Rattle.tl_syntax.specs.Trees.{FormulaTree, FormulaTrees, TermTree, TermTrees, variable, value, place, arith, no_term, more_terms, verum, falsum, atom, defined, compare, goal_fact, goal_place, goal_not, negation, conjunction, disjunction, for_all, for_some, next, always, eventually, until, within, during, no_formula, more_formulas}
+use Rattle.tl_syntax.specs.Trees.{FormulaTree, FormulaTrees, TermTree, TermTrees, variable, value, place, arith, no_term, more_terms, verum}
+use Rattle.tl_syntax.specs.Trees.{falsum, atom, defined, compare, goal_fact, goal_place, goal_not, negation, conjunction, disjunction}
+use Rattle.tl_syntax.specs.Trees.{for_all, for_some, next, always, eventually, until, within, during, no_formula, more_formulas}
 use Rattle.tl_text.specs.Traces.{action_end, event_text, label_line, trace_text}
 use Rattle.tl_run.proofs.SameLines.{same_name}
 use Rattle.tl_run.proofs.SameOperators.{head_of}
@@ -38,11 +41,13 @@ pub record SameWords (d e : Domain) : Type 0 where
 abbrev name_at : List (List ℕ) → Option ℕ → List ℕ
 name_at names found = unwrap_or (option_and_then (λ (n : ℕ). slice_get names n) found) []
 
-name_by_number : (names : List (List ℕ)) (found : Option Definition) → unwrap_or (option_and_then (λ (x : Definition). slice_get names x.name) found) [] ≡ name_at names (option_map name_of found)
+name_by_number : (names : List (List ℕ)) (found : Option Definition) →
+    unwrap_or (option_and_then (λ (x : Definition). slice_get names x.name) found) [] ≡ name_at names (option_map name_of found)
 name_by_number names None = refl
 name_by_number names (Some x) = refl
 
-definition_named : (names : List (List ℕ)) (ds : List Definition) (p : ℕ) → definition_text names ds p ≡ name_at names (slice_get (map name_of ds) p)
+definition_named : (names : List (List ℕ)) (ds : List Definition) (p : ℕ) → definition_text names ds p ≡
+    name_at names (slice_get (map name_of ds) p)
 definition_named names ds p = name_by_number names (slice_get ds p) ∙ ap (name_at names) (sym (slice_get-map name_of ds p))
 
 module _ (names : List (List ℕ)) (d e : Domain) (same : SameWords d e) where
@@ -53,13 +58,15 @@ module _ (names : List (List ℕ)) (d e : Domain) (same : SameWords d e) where
   same_function f = ap (λ (xs : List Declared). declared_text names xs f) same.functions
 
   same_definition : (p : ℕ) → definition_text names d.definitions p ≡ definition_text names e.definitions p
-  same_definition p = definition_named names d.definitions p ∙ ap (λ (xs : List ℕ). name_at names (slice_get xs p)) same.definitions ∙ sym (definition_named names e.definitions p)
+  same_definition p = definition_named names d.definitions p ∙ ap (λ (xs : List ℕ). name_at names (slice_get xs p)) same.definitions ∙
+      sym (definition_named names e.definitions p)
 
   same_fact : (p : ℕ) (xs : List Arg) → fact_text names d p xs ≡ fact_text names e p xs
   same_fact p xs = ap (λ (name : List ℕ). in_parentheses (name ∷ map (arg_text names) xs)) (same_predicate p)
 
   same_place : (f : ℕ) (xs : List Arg) (x : Arg) → place_text names d f xs x ≡ place_text names e f xs x
-  same_place f xs x = ap (λ (name : List ℕ). in_parentheses (codes "=" ∷ in_parentheses (name ∷ map (arg_text names) xs) ∷ arg_text names x ∷ [])) (same_function f)
+  same_place f xs x = ap (λ (name : List ℕ). in_parentheses (codes "=" ∷ in_parentheses (name ∷ map (arg_text names) xs) ∷
+      arg_text names x ∷ [])) (same_function f)
 
   same_bound : (b : Bound) → bound_text names d b ≡ bound_text names e b
   same_bound (bound.Fact p xs) = same_fact p xs
@@ -143,12 +150,14 @@ module _ (names : List (List ℕ)) (d e : Domain) (same : SameWords d e) where
   pub same_label : (f : FormulaTree) → label_text names d f ≡ label_text names e f
   same_label f = ap label_of (same_formula f)
 
-  same_found : (found : Option KeptPair) → option_map (λ (x : KeptPair). label_text names d x.node.formula) found ≡ option_map (λ (x : KeptPair). label_text names e x.node.formula) found
+  same_found : (found : Option KeptPair) → option_map (λ (x : KeptPair). label_text names d x.node.formula) found ≡
+      option_map (λ (x : KeptPair). label_text names e x.node.formula) found
   same_found None = refl
   same_found (Some x) = ap (λ (text : List ℕ). Some text) (same_label x.node.formula)
 
   same_label_line : (kept : List KeptPair) (k : ℕ) → label_line names d kept k ≡ label_line names e kept k
-  same_label_line kept k = ap (λ (found : Option (List ℕ)). codes "; label " ++ (unwrap_or found [] ++ codes "\n")) (same_found (slice_get kept k))
+  same_label_line kept k = ap (λ (found : Option (List ℕ)). codes "; label " ++ (unwrap_or found [] ++ codes "\n"))
+      (same_found (slice_get kept k))
 
   same_end : (a : Action) → action_end names d a ≡ action_end names e a
   same_end a =
@@ -162,7 +171,8 @@ module _ (names : List (List ℕ)) (d e : Domain) (same : SameWords d e) where
       let end = same_end a in
       let line = same_label_line kept k in
       λ i. codes "; kept " ++ (decimal k ++ (codes " " ++ (decimal j ++ (end i ++ line i))))
-  same_event kept (event.Seen j a k) = ap (λ (end : List ℕ). codes "; seen " ++ (decimal k ++ (codes " " ++ (decimal j ++ end)))) (same_end a)
+  same_event kept (event.Seen j a k) = ap (λ (end : List ℕ). codes "; seen " ++ (decimal k ++ (codes " " ++ (decimal j ++ end))))
+      (same_end a)
   same_event kept (event.Pruned j a) = ap (λ (end : List ℕ). codes "; pruned " ++ (decimal j ++ end)) (same_end a)
 
   -- the lines of events are the same

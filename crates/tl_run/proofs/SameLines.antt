@@ -16,11 +16,13 @@ use Rattle.tl_run.proofs.SameOperators.{Head, head_of}
 abbrev name_in : List (List ℕ) → Option Head → List ℕ
 name_in names found = unwrap_or (option_and_then (λ (h : Head). slice_get names h.0) found) []
 
-name_by_head : (names : List (List ℕ)) (found : Option Operator) → unwrap_or (option_and_then (λ (o : Operator). slice_get names o.name) found) [] ≡ name_in names (option_map head_of found)
+name_by_head : (names : List (List ℕ)) (found : Option Operator) → unwrap_or
+    (option_and_then (λ (o : Operator). slice_get names o.name) found) [] ≡ name_in names (option_map head_of found)
 name_by_head names None = refl
 name_by_head names (Some o) = refl
 
-head_text : (names : List (List ℕ)) (os : List Operator) (op : ℕ) → operator_text names os op ≡ name_in names (slice_get (map head_of os) op)
+head_text : (names : List (List ℕ)) (os : List Operator) (op : ℕ) → operator_text names os op ≡
+    name_in names (slice_get (map head_of os) op)
 head_text names os op = name_by_head names (slice_get os op) ∙ ap (name_in names) (sym (slice_get-map head_of os op))
 
 module _ (names : List (List ℕ)) (os us : List Operator) (alike : map head_of os ≡ map head_of us) where
@@ -35,7 +37,8 @@ module _ (names : List (List ℕ)) (os us : List Operator) (alike : map head_of 
       λ i. (codes "(" ++ (name i ++ (values_text names a.args ++ codes ")"))) ++ (codes "\n" ++ others i)
 
 -- the text of an outcome is the same
-pub same_outcome_text : (names : List (List ℕ)) (os us : List Operator) (n b : ℕ) (o : Outcome) → map head_of os ≡ map head_of us → outcome_text names os n b o ≡ outcome_text names us n b o
+pub same_outcome_text : (names : List (List ℕ)) (os us : List Operator) (n b : ℕ) (o : Outcome) → map head_of os ≡ map head_of us →
+    outcome_text names os n b o ≡ outcome_text names us n b o
 same_outcome_text names os us n b (outcome.Plan plan) alike =
     let lines = same_lines names os us alike plan in
     λ i. plan_line (length plan) ++ lines i

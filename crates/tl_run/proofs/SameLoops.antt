@@ -8,7 +8,8 @@ use Rattle.tl_lasso.specs.MeaningOfLoops.{loop_meant, loop_meant_by, repeated_me
 use Rattle.tl_run.proofs.SameOperators.{head_of, same_actions, same_actions_meant}
 
 module _ (names : List (List ℕ)) (os us : List Operator) (alike : map head_of os ≡ map head_of us) where
-  same_repeat_at : (before at : ℕ) (found : Option FormTrees) → repeat_breaks_at names os before at found ≡ repeat_breaks_at names us before at found
+  same_repeat_at : (before at : ℕ) (found : Option FormTrees) → repeat_breaks_at names os before at found ≡
+      repeat_breaks_at names us before at found
   same_repeat_at before at None = refl
   same_repeat_at before at (Some fs) = same_actions names os us alike before fs
 

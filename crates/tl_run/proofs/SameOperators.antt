@@ -26,7 +26,8 @@ abbrev pub head_of : Operator → Head
 head_of o = (o.name, length o.params)
 
 -- how many heads stand before the first of this name
-first_head : (n : ℕ) (os : List Operator) → prefix_len (λ (o : Operator). not (o.name == n)) os ≡ prefix_len (λ (h : Head). not (h.0 == n)) (map head_of os)
+first_head : (n : ℕ) (os : List Operator) → prefix_len (λ (o : Operator). not (o.name == n)) os ≡
+    prefix_len (λ (h : Head). not (h.0 == n)) (map head_of os)
 first_head n [] = refl
 first_head n (o ∷ os) = ap (λ (k : ℕ). cond (not (o.name == n)) (1 + k) 0) (first_head n os)
 
@@ -36,12 +37,15 @@ head_at n os =
     let all = sym (length-map os head_of) in
     λ i. cond (nat_lt (before i) (all i)) (Some (before i)) None
 
-head_has : (x : Option Operator) (n : ℕ) → option_map_or (λ (o : Operator). length o.params == n) x false ≡ option_map_or (λ (h : Head). h.1 == n) (option_map head_of x) false
+head_has : (x : Option Operator) (n : ℕ) → option_map_or (λ (o : Operator). length o.params == n) x false ≡
+    option_map_or (λ (h : Head). h.1 == n) (option_map head_of x) false
 head_has None n = refl
 head_has (Some o) n = refl
 
-head_takes : (os : List Operator) (op n : ℕ) → has_parameters os op n ≡ option_map_or (λ (h : Head). h.1 == n) (slice_get (map head_of os) op) false
-head_takes os op n = head_has (slice_get os op) n ∙ ap (λ (x : Option Head). option_map_or (λ (h : Head). h.1 == n) x false) (sym (slice_get-map head_of os op))
+head_takes : (os : List Operator) (op n : ℕ) → has_parameters os op n ≡
+    option_map_or (λ (h : Head). h.1 == n) (slice_get (map head_of os) op) false
+head_takes os op n = head_has (slice_get os op) n ∙ ap (λ (x : Option Head). option_map_or (λ (h : Head). h.1 == n) x false)
+    (sym (slice_get-map head_of os op))
 
 module _ (names : List (List ℕ)) (os us : List Operator) (alike : map head_of os ≡ map head_of us) where
   same_place : (n : ℕ) → position (λ (o : Operator). o.name == n) os ≡ position (λ (o : Operator). o.name == n) us
@@ -51,7 +55,8 @@ module _ (names : List (List ℕ)) (os us : List Operator) (alike : map head_of 
   same_operator text = λ i. option_and_then (λ n. same_place n i) (number_of names text)
 
   same_takes : (op n : ℕ) → has_parameters os op n ≡ has_parameters us op n
-  same_takes op n = head_takes os op n ∙ ap (λ (hs : List Head). option_map_or (λ (h : Head). h.1 == n) (slice_get hs op) false) alike ∙ sym (head_takes us op n)
+  same_takes op n = head_takes os op n ∙ ap (λ (hs : List Head). option_map_or (λ (h : Head). h.1 == n) (slice_get hs op) false) alike ∙
+      sym (head_takes us op n)
 
   same_call : (found : Option ℕ) (n at : ℕ) → named_operator_breaks_at os found n at ≡ named_operator_breaks_at us found n at
   same_call None n at = refl
@@ -66,7 +71,8 @@ module _ (names : List (List ℕ)) (os us : List Operator) (alike : map head_of 
   same_action (list no_form at) = refl
   same_action (list (more_forms (symbol text n) rest) at) =
       let found = same_operator text in
-      let call = same_call (operator_at names os text) (count rest) at ∙ ap (λ (x : Option ℕ). named_operator_breaks_at us x (count rest) at) found in
+      let call = same_call (operator_at names os text) (count rest) at ∙
+      ap (λ (x : Option ℕ). named_operator_breaks_at us x (count rest) at) found in
       λ i. call i ++ named_values_breaks names rest
   same_action (list (more_forms (integer z n) rest) at) = refl
   same_action (list (more_forms (list fs n) rest) at) = refl
@@ -102,9 +108,11 @@ module _ (names : List (List ℕ)) (os us : List Operator) (alike : map head_of 
       λ i. first i ∷ others i
 
 -- the same rules are broken
-pub same_plan_breaks : (names : List (List ℕ)) (os us : List Operator) (fs : FormTrees) → map head_of os ≡ map head_of us → plan_breaks names os fs ≡ plan_breaks names us fs
+pub same_plan_breaks : (names : List (List ℕ)) (os us : List Operator) (fs : FormTrees) → map head_of os ≡ map head_of us →
+    plan_breaks names os fs ≡ plan_breaks names us fs
 same_plan_breaks names os us fs alike = same_actions names os us alike 0 fs
 
 -- and the same plan is meant
-pub same_plan_meant : (names : List (List ℕ)) (os us : List Operator) (fs : FormTrees) → map head_of os ≡ map head_of us → plan_meant names os fs ≡ plan_meant names us fs
+pub same_plan_meant : (names : List (List ℕ)) (os us : List Operator) (fs : FormTrees) → map head_of os ≡ map head_of us →
+    plan_meant names os fs ≡ plan_meant names us fs
 same_plan_meant names os us fs alike = same_actions_meant names os us alike fs

@@ -1,4 +1,5 @@
--- What a proof file breaks and means, and the lines of proofs and of their verdicts, depend on the names and the numbers of parameters of the operators alone.
+-- What a proof file breaks and means, and the lines of proofs and of their verdicts, depend on the names and the numbers of parameters of
+-- the operators alone.
 use Rattle.std.proofs.Common.{◌≡◌, ℕ, ◌+◌, List, ◌∷◌, ◌++◌, not, map, Option, Some, None, refl, ap}
 use Rattle.std.specs.Prelude.{ℤ, codes}
 use Rattle.std.specs.Fmt.{decimal}
@@ -19,7 +20,8 @@ use Rattle.tl_run.proofs.SameLines.{same_name}
 use Rattle.tl_run.proofs.SameOperators.{head_of, same_action, same_meaning}
 
 module _ (names : List (List ℕ)) (os us : List Operator) (alike : map head_of os ≡ map head_of us) where
-  same_link_at : (before at : ℕ) (parts : Option (ℤ × ℕ × FormTree)) → link_breaks_at names os before at parts ≡ link_breaks_at names us before at parts
+  same_link_at : (before at : ℕ) (parts : Option (ℤ × ℕ × FormTree)) → link_breaks_at names os before at parts ≡
+      link_breaks_at names us before at parts
   same_link_at before at None = refl
   same_link_at before at (Some parts) =
       let action = same_action names os us alike parts.2 in

@@ -1,5 +1,6 @@
 -- The search nodes of all prefixes of the plan of a depth-first search are kept.
-use Rattle.std.proofs.Common.{◌≡◌, ◌≢◌, inl, inr, ℕ, zero, suc, List, [], ◌∷◌, ◌++◌, length, true, Some, None, Greater, refl, sym, ap, ◌∙◌, subst, append_assoc}
+use Rattle.std.proofs.Common.{◌≡◌, ◌≢◌, inl, inr, ℕ, zero, suc, List, [], ◌∷◌, ◌++◌, length, true, Some, None, Greater, refl, sym, ap, ◌∙◌}
+use Rattle.std.proofs.Common.{subst, append_assoc}
 use Rattle.std.specs.Option.{option_and_then, option_map}
 use Rattle.std.specs.Ordering.{ordering_reverse}
 use Rattle.std.specs.Prelude.{Option, Result, Ok, Err, IfOk, OnOk, IsSome, slice_get}
@@ -49,7 +50,8 @@ self_not_greater law a e =
     let back = sym e ∙ total.antisymm a a ∙ ap ordering_reverse e in
     let z : ⊥ = cc in z
 
-module _ (goes_on : PairGoesOn) (opens : PrefixesAreOpen) (order : ActionOrderIsTotal) (p : PlainProblem) (kept : List Pair) (events : List Event) (plan : List Action)
+module _ (goes_on : PairGoesOn) (opens : PrefixesAreOpen) (order : ActionOrderIsTotal) (p : PlainProblem) (kept : List Pair)
+    (events : List Event) (plan : List Action)
     (accepted : IsAccepted p plan) (last : HasLastPair p kept plan) (told : IsToldAlong p (Reported true kept events) plan) where
   whole_kept : (front : List Action) → front ++ [] ≡ plan → (x : Pair) × (pair_of p front ≡ Some x) × Among x kept
   whole_kept front e =
@@ -57,11 +59,13 @@ module _ (goes_on : PairGoesOn) (opens : PrefixesAreOpen) (order : ActionOrderIs
       (last.1, ap (pair_of p) same ∙ last.4, among_at kept last.0 last.1 last.3)
 
   -- the next action of the plan is executable
-  next_there : (front later : List Action) (b : Action) (x : Pair) → front ++ b ∷ later ≡ plan → pair_of p front ≡ Some x → IsSome (step p x.world b)
+  next_there : (front later : List Action) (b : Action) (x : Pair) → front ++ b ∷ later ≡ plan → pair_of p front ≡ Some x →
+      IsSome (step p x.world b)
   next_there front later b x e pair =
       let grouped : (front ++ b ∷ []) ++ later ≡ plan = append_assoc front (b ∷ []) later ∙ e in
       let opened = opens.of_accepted p (front ++ b ∷ []) later (subst (λ (q : List Action). IsAccepted p q) (sym grouped) accepted) in
-      let onward : pair_of p (front ++ b ∷ []) ≡ next_pair p x b = goes_on p front b ∙ ap (option_and_then (λ (y : Pair). next_pair p y b)) pair in
+      let onward : pair_of p (front ++ b ∷ []) ≡ next_pair p x b = goes_on p front b ∙
+      ap (option_and_then (λ (y : Pair). next_pair p y b)) pair in
       mapped_some (pair_in p x.formula) (step p x.world b) (subst (λ (o : Option Pair). IsSome o) onward opened.executes)
 
   part_kept : (front later : List Action) (b : Action) → front ++ b ∷ later ≡ plan → (x : Pair) × (pair_of p front ≡ Some x) × Among x kept
@@ -75,7 +79,8 @@ module _ (goes_on : PairGoesOn) (opens : PrefixesAreOpen) (order : ActionOrderIs
   prefixes_kept front [] e = whole_kept front e
   prefixes_kept front (b ∷ later) e = part_kept front later b e
 
-keeps_prefixes : PairGoesOn → PrefixesAreOpen → ActionOrderIsTotal → (p : PlainProblem) (n b : ℕ) (kept : List Pair) (events : List Event) (o : Outcome) → IsDepthFirstOutcome p n b kept o → IsToldOutcome p n true kept events o → HasPrefixes p kept o
+keeps_prefixes : PairGoesOn → PrefixesAreOpen → ActionOrderIsTotal → (p : PlainProblem) (n b : ℕ) (kept : List Pair) (events : List Event)
+    (o : Outcome) → IsDepthFirstOutcome p n b kept o → IsToldOutcome p n true kept events o → HasPrefixes p kept o
 keeps_prefixes goes_on opens order p n b kept events (outcome.Plan plan) h told =
     let simple : IsFirstSimplePlan p n plan = h.0 in
     prefixes_kept goes_on opens order p kept events plan simple.accepted h.1 told.0
@@ -84,8 +89,12 @@ keeps_prefixes goes_on opens order p n b kept events outcome.NoneWithin h told =
 keeps_prefixes goes_on opens order p n b kept events outcome.Spent h told = tt
 
 -- so it is with a report
-pub report_prefixes : PairGoesOn → PrefixesAreOpen → ActionOrderIsTotal → (p : PlainProblem) (n b : ℕ) (kept : List Pair) (r : Result Report SearchFault) → IfOk r (λ report. IsDepthFirstOutcome p n b kept report.outcome) → IfOk r (λ report. IsToldOutcome p n true kept report.events report.outcome) → IfOk r (λ report. HasPrefixes p kept report.outcome)
-report_prefixes goes_on opens order p n b kept (Ok report) h told = keeps_prefixes goes_on opens order p n b kept report.events report.outcome h told
+pub report_prefixes : PairGoesOn → PrefixesAreOpen → ActionOrderIsTotal →
+    (p : PlainProblem) (n b : ℕ) (kept : List Pair) (r : Result Report SearchFault) →
+    IfOk r (λ report. IsDepthFirstOutcome p n b kept report.outcome) →
+    IfOk r (λ report. IsToldOutcome p n true kept report.events report.outcome) → IfOk r (λ report. HasPrefixes p kept report.outcome)
+report_prefixes goes_on opens order p n b kept (Ok report) h told = keeps_prefixes goes_on opens order p n b kept report.events
+    report.outcome h told
 report_prefixes goes_on opens order p n b kept (Err e) h told = tt
 
 depth_outcome : (p : PlainProblem) (n b : ℕ) (kept : List Pair) (o : Outcome) → IsDepthFirstOutcome p n b kept o → IsOutcomeIn Depth n b p o
@@ -95,7 +104,8 @@ depth_outcome p n b kept outcome.NoneWithin h = (h.0, h.1)
 depth_outcome p n b kept outcome.Spent h = (kept, h.0, h.1)
 
 -- what a depth-first search answers is right
-pub report_outcome : (p : PlainProblem) (n b : ℕ) (kept : List Pair) (r : Result Report SearchFault) → IfOk r (λ report. IsDepthFirstOutcome p n b kept report.outcome) → IfOk r (λ report. IsOutcomeIn Depth n b p report.outcome)
+pub report_outcome : (p : PlainProblem) (n b : ℕ) (kept : List Pair) (r : Result Report SearchFault) →
+    IfOk r (λ report. IsDepthFirstOutcome p n b kept report.outcome) → IfOk r (λ report. IsOutcomeIn Depth n b p report.outcome)
 report_outcome p n b kept (Ok report) h = depth_outcome p n b kept report.outcome h
 report_outcome p n b kept (Err e) h = tt
 
@@ -106,12 +116,14 @@ depth_near p n b kept outcome.NoPlan h = h.3
 depth_near p n b kept outcome.NoneWithin h = h.3
 depth_near p n b kept outcome.Spent h = let spent = h.0 in spent.near
 
-pub report_near : (p : PlainProblem) (n b : ℕ) (kept : List Pair) (r : Result Report SearchFault) → IfOk r (λ report. IsDepthFirstOutcome p n b kept report.outcome) → OnOk r (AreNear p n kept)
+pub report_near : (p : PlainProblem) (n b : ℕ) (kept : List Pair) (r : Result Report SearchFault) →
+    IfOk r (λ report. IsDepthFirstOutcome p n b kept report.outcome) → OnOk r (AreNear p n kept)
 report_near p n b kept (Ok report) h = depth_near p n b kept report.outcome h
 report_near p n b kept (Err e) h = tt
 
 -- the kept search nodes, so many
-pub keeps_nodes : (p : PlainProblem) (n : ℕ) (kept : List KeptPair) (o : Outcome) (count : ℕ) → count ≡ length kept → AreNear p n (pairs_of kept) → HasPrefixes p (pairs_of kept) o → KeepsNodes p n o count
+pub keeps_nodes : (p : PlainProblem) (n : ℕ) (kept : List KeptPair) (o : Outcome) (count : ℕ) → count ≡ length kept →
+    AreNear p n (pairs_of kept) → HasPrefixes p (pairs_of kept) o → KeepsNodes p n o count
 keeps_nodes p n kept o count counted near prefixes = record {
   nodes = pairs_of kept;
   many = length-map kept (λ (y : KeptPair). y.node) ∙ sym counted;

@@ -26,10 +26,12 @@ use Rattle.tl_run.specs.declared.words.Role.{Role}
 use Rattle.tl_run.specs.Files.{SpellShortly}
 use Rattle.tl_run.specs.Held.{IsHeld, last_role}
 use Rattle.tl_run.specs.Inputs.{Input, nothing, a_domain, a_problem, breaks_of, IsBroken}
-use Rattle.tl_run.specs.Stops.{stop_of_forms, stop_of_reading, stop_of_text, IsFileStop, IsFormsStop, IsSampleStop, IsTurnStop, has_read_fault, is_fault}
+use Rattle.tl_run.specs.Stops.{stop_of_forms, stop_of_reading, stop_of_text, IsFileStop, IsFormsStop, IsSampleStop, IsTurnStop}
+use Rattle.tl_run.specs.Stops.{has_read_fault, is_fault}
 
 -- what the reader of forms tells is a stop at the file
-pub text_stop : (number : ℕ) (r : Role) (before : Input) (bytes : List ℕ) (told : TextFault) → length bytes ≤ 4194304 → (told ≡ text.NoMemory) ⊎ IsFaultOf bytes told → IsFileStop number (IsBroken r before bytes) (stop_of_text number told)
+pub text_stop : (number : ℕ) (r : Role) (before : Input) (bytes : List ℕ) (told : TextFault) → length bytes ≤ 4194304 →
+    (told ≡ text.NoMemory) ⊎ IsFaultOf bytes told → IsFileStop number (IsBroken r before bytes) (stop_of_text number told)
 text_stop number r before bytes text.NoMemory short h = tt
 text_stop number r before bytes (text.BadByte at) short (inl e) = absurd (let k : ⊥ = cc in k)
 text_stop number r before bytes (text.StrayClose at) short (inl e) = absurd (let k : ⊥ = cc in k)
@@ -43,12 +45,14 @@ text_stop number r before bytes (text.TooDeep at) short (inr h) = (refl, (short,
 text_stop number r before bytes (text.BigInteger at) short (inr h) = (refl, (short, h))
 
 -- the least rule that forms break is a stop at the file
-pub forms_stop : (number : ℕ) (breaks : List Break) (told : FormFault) → IsLeastFault breaks told → IsFormsStop number breaks (stop_of_forms number told)
+pub forms_stop : (number : ℕ) (breaks : List Break) (told : FormFault) → IsLeastFault breaks told →
+    IsFormsStop number breaks (stop_of_forms number told)
 forms_stop number breaks (form.Breaks rule at) h = (refl, record { rule = (rule, at); is = refl; least = h })
 forms_stop number breaks form.NoMemory h = tt
 
 -- so it is for the bytes of the file
-pub file_stop : (number : ℕ) (r : Role) (before : Input) (bytes : List ℕ) (forms : FormTrees) (stop : Stop) → SpellShortly bytes forms → IsFormsStop number (breaks_of r before forms) stop → IsFileStop number (IsBroken r before bytes) stop
+pub file_stop : (number : ℕ) (r : Role) (before : Input) (bytes : List ℕ) (forms : FormTrees) (stop : Stop) → SpellShortly bytes forms →
+    IsFormsStop number (breaks_of r before forms) stop → IsFileStop number (IsBroken r before bytes) stop
 file_stop number r before bytes forms ReadFault spelled h = absurd h
 file_stop number r before bytes forms NoMemory spelled h = tt
 file_stop number r before bytes forms (Refused k m) spelled h =
@@ -81,7 +85,10 @@ nothing_before P (held.Costs q costs) x e is p = absurd (let k : ⊥ = cc in k)
 nothing_before P (held.Loop q plan) x e is p = absurd (let k : ⊥ = cc in k)
 
 -- a fault of reading is a stop at the file
-pub read_stop : {T : Type 0} (files : Option Files) (r : Role) (name : List ℕ) (x : Input) (number : ℕ) (before now : ℕ) (told : Fault) → (IsErrOf {T = T} (Err told) reading.Failed → Lacks files name ⊎ Rose before now) → (IsErrOf {T = T} (Err told) reading.TooLong → IsLonger files name 4194304) → IsTurnStop files r name x number before now (stop_of_reading number told)
+pub read_stop : {T : Type 0} (files : Option Files) (r : Role) (name : List ℕ) (x : Input) (number : ℕ) (before now : ℕ) (told : Fault) →
+    (IsErrOf {T = T} (Err told) reading.Failed → Lacks files name ⊎ Rose before now) →
+    (IsErrOf {T = T} (Err told) reading.TooLong → IsLonger files name 4194304) →
+    IsTurnStop files r name x number before now (stop_of_reading number told)
 read_stop files r name x number before now reading.Failed failed long = failed refl
 read_stop files r name x number before now reading.TooLong failed long =
     let l = long refl in
@@ -89,13 +96,15 @@ read_stop files r name x number before now reading.TooLong failed long =
 read_stop files r name x number before now reading.NoMemory failed long = tt
 
 -- so is a stop over its bytes
-pub turn_stop : (files : Option Files) (r : Role) (name : List ℕ) (x : Input) (number : ℕ) (bytes : List ℕ) (before now : ℕ) (stop : Stop) → IsContent files name bytes → IsFileStop number (IsBroken r x bytes) stop → IsTurnStop files r name x number before now stop
+pub turn_stop : (files : Option Files) (r : Role) (name : List ℕ) (x : Input) (number : ℕ) (bytes : List ℕ) (before now : ℕ) (stop : Stop) →
+    IsContent files name bytes → IsFileStop number (IsBroken r x bytes) stop → IsTurnStop files r name x number before now stop
 turn_stop files r name x number bytes before now ReadFault content h = absurd h
 turn_stop files r name x number bytes before now NoMemory content h = tt
 turn_stop files r name x number bytes before now (Refused k m) content h = (h.0, (bytes, content, h.1))
 
 -- a stop over the bytes of a file is no fault of the store
-pub no_fault : {T : Type 0} (result : Result T Stop) (number : ℕ) (Breaks : Broken → Type 0) → IfErr result (IsFileStop number Breaks) → has_read_fault result ≡ false
+pub no_fault : {T : Type 0} (result : Result T Stop) (number : ℕ) (Breaks : Broken → Type 0) → IfErr result (IsFileStop number Breaks) →
+    has_read_fault result ≡ false
 no_fault (Ok t) number Breaks h = refl
 no_fault (Err ReadFault) number Breaks h = absurd h
 no_fault (Err NoMemory) number Breaks h = refl
@@ -115,11 +124,13 @@ same_fault T number reading.TooLong = refl
 same_fault T number reading.NoMemory = refl
 
 -- the stop that `?` hands on is no other
-pub handed_fault : {A : Type 0} (result : Result A Stop) (stop : Stop) → IsErrAnd result (λ told. told ≡ stop) → is_fault stop ≡ has_read_fault result
+pub handed_fault : {A : Type 0} (result : Result A Stop) (stop : Stop) → IsErrAnd result (λ told. told ≡ stop) → is_fault stop ≡
+    has_read_fault result
 handed_fault (Ok x) stop same = absurd same
 handed_fault (Err told) stop same = ap is_fault (sym same)
 
 -- what holds of the stop that `?` hands on
-pub handed_on : {A : Type 0} (result : Result A Stop) (stop : Stop) (P : Stop → Type 0) → IsErrAnd result (λ told. told ≡ stop) → P stop → IfErr result P
+pub handed_on : {A : Type 0} (result : Result A Stop) (stop : Stop) (P : Stop → Type 0) → IsErrAnd result (λ told. told ≡ stop) → P stop →
+    IfErr result P
 handed_on (Ok x) stop P same h = absurd same
 handed_on (Err told) stop P same h = subst P (sym same) h

@@ -56,7 +56,8 @@ outcome_status outcome.NoneWithin = No
 outcome_status outcome.Spent = Spent
 
 -- the status and the lines of a thing that is right
-pub record Gives {A : Type 0} (IsRight : A → Type 0) (status_of : A → Status) (text_of : A → List ℕ) (status : Status) (text : List ℕ) : Type 0 where
+pub record Gives {A : Type 0} (IsRight : A → Type 0) (status_of : A → Status) (text_of : A → List ℕ) (status : Status)
+    (text : List ℕ) : Type 0 where
   pub what : A
   pub right : IsRight what
   pub status_is : status ≡ status_of what

@@ -35,7 +35,8 @@ pub record HoldProblem (files : Option Files) (d p : List ℕ) (m : Problem) : T
   pub stand : StandForProblem domain problem m
 
 -- the file with this name breaks none of these rules, and its forms mean this
-pub record HoldThird {A : Type 0} (files : Option Files) (q : List ℕ) (breaks : FormTrees → List Break) (meant : FormTrees → A) (what : A) : Type 0 where
+pub record HoldThird {A : Type 0} (files : Option Files) (q : List ℕ) (breaks : FormTrees → List Break) (meant : FormTrees → A)
+    (what : A) : Type 0 where
   pub bytes : List ℕ
   pub content : IsContent files q bytes
   pub forms : FormTrees

@@ -10,7 +10,8 @@ use Rattle.tl_terms.specs.Problem.{PlainProblem}
 use Rattle.tl_terms.specs.ProblemMeaning.{plain_problem}
 use Rattle.tl_eval.specs.Notes.{operation_of}
 use Rattle.tl_eval.specs.declared.range.RangeNote.{RangeNote}
-use Rattle.tl_search.specs.Plans.{HasNoPlan, HasNoPlanWithin, HasNoPlanBelow, HasPairAt, HasNoPairFrom, IsFirstShortestPlan, IsFirstSimplePlan}
+use Rattle.tl_search.specs.Plans.{HasNoPlan, HasNoPlanWithin, HasNoPlanBelow, HasPairAt, HasNoPairFrom, IsFirstShortestPlan}
+use Rattle.tl_search.specs.Plans.{IsFirstSimplePlan}
 use Rattle.tl_search.specs.RangeCauses.{IsRangeCause, HasNoSimplePlanBefore}
 use Rattle.tl_search.specs.Spent.{HasFewPairs, IsSpent, IsSpentBreadthFirst, IsSpentDepthFirst}
 use Rattle.tl_search.specs.declared.outcome.Outcome.{Outcome}

@@ -52,7 +52,8 @@ IsValidFile files d p q text =
 abbrev pub PrintedPlansAreValid : Type 0
 PrintedPlansAreValid =
     (files : Option Files) (s : Search) (d p q text : List ℕ) (told : CallsTold) →
-    IsAnswer files (search s d p) told Yes text ⊎ IsAnswer files (prove_none s d p) told No text → s.within ≤ 100000 → length text ≤ 4194304 → IsContent files q text →
+    IsAnswer files (search s d p) told Yes text ⊎ IsAnswer files (prove_none s d p) told No text → s.within ≤ 100000 →
+    length text ≤ 4194304 → IsContent files q text →
     IsValidFile files d p q text
 
 -- the text is that of a proof, and with the third file the files stand for it, and the right

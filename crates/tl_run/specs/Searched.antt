@@ -41,7 +41,8 @@ IsTraceReport s p kept report = IsTrace s p kept report.events report.outcome
 -- the lines of a report: those of its events, and then those of its outcome
 abbrev pub report_text : Problem → Search → List KeptPair → Report → List ℕ
 report_text problem s kept report =
-    trace_text problem.names problem.domain kept report.events ++ outcome_text problem.names problem.domain.operators s.within s.nodes report.outcome
+    trace_text problem.names problem.domain kept report.events ++ outcome_text problem.names problem.domain.operators s.within s.nodes
+    report.outcome
 
 -- the actions of the events and of the plan, where there is one, are those of the problem and name
 -- only its names, and the numbers of the events are those of kept search nodes

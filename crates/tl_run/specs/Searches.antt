@@ -11,7 +11,8 @@ use Rattle.tl_run.specs.declared.search.Search.{Search}
 abbrev pub number_between : ℕ → ℕ → List ℕ → Option ℕ
 number_between least most [] = None
 number_between least most (c ∷ cs) =
-    if all_ascii_digits (c ∷ cs) && (nat_le least (digits_value 10 (c ∷ cs)) && nat_le (digits_value 10 (c ∷ cs)) most) then Some (digits_value 10 (c ∷ cs)) else None
+    if all_ascii_digits (c ∷ cs) && (nat_le least (digits_value 10 (c ∷ cs)) && nat_le (digits_value 10 (c ∷ cs)) most) then Some
+    (digits_value 10 (c ∷ cs)) else None
 
 -- the mode that a word names
 abbrev pub mode_in : List ℕ → Option Mode

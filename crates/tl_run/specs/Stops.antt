@@ -45,7 +45,8 @@ stop_of_reading number reading.NoMemory = NoMemory
 abbrev pub IsTurnStop : Option Files → Role → List ℕ → Input → ℕ → ℕ → ℕ → Stop → Type 0
 IsTurnStop files r name x number before now ReadFault = Lacks files name ⊎ Rose before now
 IsTurnStop files r name x number before now NoMemory = ⊤
-IsTurnStop files r name x number before now (Refused k m) = (k ≡ number) × ((bytes : List ℕ) × IsContent files name bytes × IsBroken r x bytes m)
+IsTurnStop files r name x number before now (Refused k m) = (k ≡ number) ×
+    ((bytes : List ℕ) × IsContent files name bytes × IsBroken r x bytes m)
 
 -- of the rules that forms break, this is the least one
 pub record IsLeastBroken (breaks : List Break) (b : Broken) : Type 0 where

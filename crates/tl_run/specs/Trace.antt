@@ -35,7 +35,8 @@ IsSearchIn Depth n b p kept o = IsDepthFirstOutcome p n b (pairs_of kept) o
 -- those of one search node stand in action order
 abbrev pub TellsInTurn : PlainProblem → ℕ → List KeptPair → List Event → Outcome → Type 0
 TellsInTurn p n kept events outcome.NoPlan = AreFirstArrivals p n kept (arrivals_of events) × AreAllArrivals p n kept (arrivals_of events)
-TellsInTurn p n kept events outcome.NoneWithin = AreFirstArrivals p n kept (arrivals_of events) × AreAllArrivals p n kept (arrivals_of events)
+TellsInTurn p n kept events outcome.NoneWithin = AreFirstArrivals p n kept (arrivals_of events) ×
+    AreAllArrivals p n kept (arrivals_of events)
 TellsInTurn p n kept events o = AreFirstArrivals p n kept (arrivals_of events)
 
 -- of which executable actions the events tell after the root's in a mode, and in which order, one

@@ -18,7 +18,8 @@ StandTogether files (f ∷ fs) before input =
 abbrev pub Reaches : (ℕ → Role → List ℕ → Input → Type 0) → Option Files → List (Role × List ℕ) → ℕ → Input → Type 0
 Reaches P files [] k before = ⊥
 Reaches P files (f ∷ fs) k before =
-    P k f.0 f.1 before ⊎ ((bytes : List ℕ) × (after : Input) × IsContent files f.1 bytes × StandsFor f.0 before bytes after × Reaches P files fs (k + 1) after)
+    P k f.0 f.1 before ⊎ ((bytes : List ℕ) × (after : Input) × IsContent files f.1 bytes × StandsFor f.0 before bytes after ×
+    Reaches P files fs (k + 1) after)
 
 -- the files of a command all pass, and stand for this together; those of a sample are its two texts
 abbrev pub HoldInput : Option Files → Command → Input → Type 0

@@ -1,5 +1,6 @@
 -- The entries of what is remembered of arrivals.
-use Rattle.std.proofs.Common.{◌≡◌, ℕ, ◌+◌, zero, suc, Bool, List, [], ◌∷◌, ◌++◌, length, slice_get, Some, ◌⊎◌, inl, inr, refl, sym, ap, subst, ◌∙◌, arith}
+use Rattle.std.proofs.Common.{◌≡◌, ℕ, ◌+◌, zero, suc, Bool, List, [], ◌∷◌, ◌++◌, length, slice_get, Some, ◌⊎◌, inl, inr, refl, sym, ap}
+use Rattle.std.proofs.Common.{subst, ◌∙◌, arith}
 use Rattle.std.specs.Map.{lookup}
 use Rattle.indexmap.specs.IndexMap.{insert_entry}
 use Rattle.tl_search.specs.declared.arrival.Arrival.{Arrival}
@@ -40,7 +41,8 @@ no-more xs x = each-of (λ y. Among y xs ⊎ (y ≡ x)) xs (λ y a. inl a)
 -- ---- the first arrivals
 
 -- what came first in a world is among the entries
-pub first-among : (xs : List FirstArrival) (n i : ℕ) (x : FirstArrival) (key : Numbers) → slice_get xs i ≡ Some x → key.world ≡ n + i → x.label ≡ key.label → Among (key, x.arrival) (entries_from n xs)
+pub first-among : (xs : List FirstArrival) (n i : ℕ) (x : FirstArrival) (key : Numbers) → slice_get xs i ≡ Some x → key.world ≡ n + i →
+    x.label ≡ key.label → Among (key, x.arrival) (entries_from n xs)
 first-among [] n i x key e w l = let b : ⊥ = cc in absurd b
 first-among (y ∷ ys) n zero x key e w l =
     let p : y ≡ x = cc in
@@ -49,11 +51,13 @@ first-among (y ∷ ys) n zero x key e w l =
     inl (λ j. (record { world = v j; label = k j }, (p j).arrival))
 first-among (y ∷ ys) n (suc i) x key e w l = inr (first-among ys (suc n) i x key e (omega (arith, w)) l)
 
-entries-longer : (xs : List FirstArrival) (n : ℕ) (x : FirstArrival) (key : Numbers) → key.world ≡ n + length xs → x.label ≡ key.label → entries_from n (xs ++ x ∷ []) ≡ entries_from n xs ++ (key, x.arrival) ∷ []
+entries-longer : (xs : List FirstArrival) (n : ℕ) (x : FirstArrival) (key : Numbers) → key.world ≡ n + length xs → x.label ≡ key.label →
+    entries_from n (xs ++ x ∷ []) ≡ entries_from n xs ++ (key, x.arrival) ∷ []
 entries-longer [] n x key w l =
     let v : n ≡ key.world = omega (arith, w) in
     λ j. (record { world = v j; label = l j }, x.arrival) ∷ []
-entries-longer (y ∷ ys) n x key w l = ap (λ es. (record { world = n; label = y.label }, y.arrival) ∷ es) (entries-longer ys (suc n) x key (omega (arith, w)) l)
+entries-longer (y ∷ ys) n x key w l = ap (λ es. (record { world = n; label = y.label }, y.arrival) ∷ es)
+    (entries-longer ys (suc n) x key (omega (arith, w)) l)
 
 -- ---- one entry more
 
@@ -79,21 +83,28 @@ more-back {A} xs ys zs e h = each-of (λ y. Among y (zs ++ xs) ⊎ (y ≡ e)) (z
     split y (inl b) = inl (among-left y zs xs b)
     split y (inr b) = old y (each-among (λ x. Among x xs ⊎ (x ≡ e)) ys y h b)
 
-pub one-more-first : (xs ys : List FirstArrival) (x : FirstArrival) (key : Numbers) → key.world ≡ length xs → x.label ≡ key.label → ys ≡ xs ++ x ∷ [] → HasOneMore (entries_from 0 xs) (key, x.arrival) (entries_from 0 ys)
+pub one-more-first : (xs ys : List FirstArrival) (x : FirstArrival) (key : Numbers) → key.world ≡ length xs → x.label ≡ key.label → ys ≡
+    xs ++ x ∷ [] → HasOneMore (entries_from 0 xs) (key, x.arrival) (entries_from 0 ys)
 one-more-first xs ys x key w l made =
-    subst (λ es. HasOneMore (entries_from 0 xs) (key, x.arrival) es) (sym (ap (entries_from 0) made ∙ entries-longer xs 0 x key (omega (arith, w)) l))
-    (each-of (λ y. Among y (entries_from 0 xs) ⊎ (y ≡ (key, x.arrival))) (entries_from 0 xs ++ (key, x.arrival) ∷ []) (λ y a. split y (among-either y (entries_from 0 xs) ((key, x.arrival) ∷ []) a)))
+    subst (λ es. HasOneMore (entries_from 0 xs) (key, x.arrival) es) (sym
+    (ap (entries_from 0) made ∙ entries-longer xs 0 x key (omega (arith, w)) l))
+    (each-of (λ y. Among y (entries_from 0 xs) ⊎ (y ≡ (key, x.arrival))) (entries_from 0 xs ++ (key, x.arrival) ∷ [])
+    (λ y a. split y (among-either y (entries_from 0 xs) ((key, x.arrival) ∷ []) a)))
   where
-    split : (y : Numbers × Arrival) → Among y (entries_from 0 xs) ⊎ Among y ((key, x.arrival) ∷ []) → Among y (entries_from 0 xs) ⊎ (y ≡ (key, x.arrival))
+    split : (y : Numbers × Arrival) → Among y (entries_from 0 xs) ⊎ Among y ((key, x.arrival) ∷ []) → Among y (entries_from 0 xs) ⊎
+        (y ≡ (key, x.arrival))
     split y (inl b) = inl b
     split y (inr (inl q)) = inr (sym q)
     split y (inr (inr q)) = absurd q
 
-pub one-more-other : (eq : Numbers → Numbers → Bool) → Tells eq → (os ns : List (Numbers × Arrival)) (key : Numbers) (r : Arrival) → ns ≡ insert_entry eq os key r → HasOneMore os (key, r) ns
+pub one-more-other : (eq : Numbers → Numbers → Bool) → Tells eq → (os ns : List (Numbers × Arrival)) (key : Numbers) (r : Arrival) → ns ≡
+    insert_entry eq os key r → HasOneMore os (key, r) ns
 one-more-other eq tells os ns key r made =
     subst (HasOneMore os (key, r)) (sym made)
     (inserted-each (λ (y : Numbers × Arrival). Among y os ⊎ (y ≡ (key, r))) eq tells key r os (no-more os (key, r)) (inr refl))
 
 -- the entry that is looked up is among them
-pub other-among : (eq : Numbers → Numbers → Bool) → Tells eq → (os : List (Numbers × Arrival)) (key : Numbers) (r : Arrival) → lookup (eq key) os ≡ Some r → Among (key, r) os
-other-among eq tells os key r e = picked (λ (y : Numbers × Arrival). Among y os) eq tells key r os (each-of (λ y. Among y os) os (λ y a. a)) e
+pub other-among : (eq : Numbers → Numbers → Bool) → Tells eq → (os : List (Numbers × Arrival)) (key : Numbers) (r : Arrival) →
+    lookup (eq key) os ≡ Some r → Among (key, r) os
+other-among eq tells os key r e = picked (λ (y : Numbers × Arrival). Among y os) eq tells key r os
+    (each-of (λ y. Among y os) os (λ y a. a)) e

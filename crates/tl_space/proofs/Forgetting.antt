@@ -1,5 +1,6 @@
 -- A world that nothing is kept of is let go.
-use Rattle.std.proofs.Common.{◌≡◌, ◌<◌, ◌≤◌, ◌-◌, ℕ, zero, suc, List, [], ◌∷◌, length, take, slice_get, Some, None, inl, inr, refl, sym, ap, subst, ◌∙◌, arith}
+use Rattle.std.proofs.Common.{◌≡◌, ◌<◌, ◌≤◌, ◌-◌, ℕ, zero, suc, List, [], ◌∷◌, length, take, slice_get, Some, None, inl, inr, refl, sym, ap}
+use Rattle.std.proofs.Common.{subst, ◌∙◌, arith}
 use Rattle.std.proofs.lemmas.List.{length-take-le}
 use Rattle.tl_syntax.specs.declared.action.Action.{Action}
 use Rattle.tl_syntax.specs.Lists.{Each}
@@ -68,17 +69,21 @@ module _ (p : PlainProblem) (ws vs : List World) (ts : List FormulaTree) (n : �
       label = h.label;
       known =
           subst (λ (xs : List Pair). IsKnown xs (pair_in_at p vs ts e.0) e.1) (nodes-stay vs ws ts ts ns given stay (λ i x g. g))
-          (subst (λ (x : Pair). IsKnown (nodes_at ws ts ns) x e.1) (arriving-stays p vs ws ts ts e.0 (inside e.0.world below, h.label) stay (λ i x g. g)) h.known);
+          (subst (λ (x : Pair). IsKnown (nodes_at ws ts ns) x e.1) (arriving-stays p vs ws ts ts e.0 (inside e.0.world below, h.label) stay
+          (λ i x g. g)) h.known);
     }
 
-    pub remembered-are : (es : List (Numbers × Arrival)) → AreRemembered p ws ts ns es → Each (λ (e : Numbers × Arrival). e.0.world < n) es → AreRemembered p vs ts ns es
+    pub remembered-are : (es : List (Numbers × Arrival)) → AreRemembered p ws ts ns es →
+        Each (λ (e : Numbers × Arrival). e.0.world < n) es → AreRemembered p vs ts ns es
     remembered-are [] h below = tt
     remembered-are (e ∷ es) h below = (remembered-is e h.0 below.0, remembered-are es h.1 below.1)
 
-  pub given-are : (g : Signature) (c : ℕ) (ns : List Numbers) (ms : List Met) → AreKeptBy g c p ws ts ns ms → ((i : ℕ) (m : Numbers) → slice_get ns i ≡ Some m → m.world < n) → AreGiven vs ts ns
+  pub given-are : (g : Signature) (c : ℕ) (ns : List Numbers) (ms : List Met) → AreKeptBy g c p ws ts ns ms →
+      ((i : ℕ) (m : Numbers) → slice_get ns i ≡ Some m → m.world < n) → AreGiven vs ts ns
   given-are g c ns ms h below i m e = (inside m.world (below i m e), (h.numbers i m e).label.inside)
 
-  pub kept-are : (g : Signature) (c : ℕ) (ns : List Numbers) (ms : List Met) → AreKeptBy g c p ws ts ns ms → ((i : ℕ) (m : Numbers) → slice_get ns i ≡ Some m → m.world < n) → AreKeptBy g c p vs ts ns ms
+  pub kept-are : (g : Signature) (c : ℕ) (ns : List Numbers) (ms : List Met) → AreKeptBy g c p ws ts ns ms →
+      ((i : ℕ) (m : Numbers) → slice_get ns i ≡ Some m → m.world < n) → AreKeptBy g c p vs ts ns ms
   kept-are g c ns ms h below = record {
     all_met = h.all_met;
     once = h.once;
@@ -89,32 +94,41 @@ module _ (p : PlainProblem) (ws vs : List World) (ts : List FormulaTree) (n : �
     named = h.named;
   }
 
-  pub found-are : (old new : Residuals) → AreFound p ws ts old → ((k : ℕ) → found_in new n k ≡ None) → ((m k i : ℕ) → found_in new m k ≡ Some i → found_in old m k ≡ Some i) → AreFound p vs ts new
+  pub found-are : (old new : Residuals) → AreFound p ws ts old → ((k : ℕ) → found_in new n k ≡ None) →
+      ((m k i : ℕ) → found_in new m k ≡ Some i → found_in old m k ≡ Some i) → AreFound p vs ts new
   found-are old new was none fewer m k i e =
       let h = was m k i (fewer m k i e) in
-      let other : m ≡ n → ⊥ = λ q. let z : None ≡ Some i = sym (none k) ∙ (ap (λ (x : ℕ). found_in new x k) (sym q) ∙ e) in (let f : ⊥ = cc in f) in
+      let other : m ≡ n → ⊥ = λ q. let z : None ≡ Some i = sym (none k) ∙ (ap (λ (x : ℕ). found_in new x k) (sym q) ∙ e) in
+      (let f : ⊥ = cc in f) in
       let below : m < length vs = inside m (below-other m n (subst (λ (x : ℕ). m < x) (sym last) h.0) other) in
       let w : world_at ws m ≡ world_at vs m = world-stays vs ws m stay below in
       (below, (h.1.0, λ a. h.1.1 a ∙ ap (λ (v : World). Some (residual p v a (tree_at ts k))) w))
 
 module _ (s : Space) (vs : List World) (n : ℕ) (unmet : IsLastUnmet s n) (made : vs ≡ take n (worlds_in s.worlds)) where
   still-given : AreGiven vs (trees s.nodes) s.pairs.keys
-  still-given = given-are (problem_of s) (worlds_in s.worlds) vs (trees s.nodes) n made unmet.last (signature_of s.task.problem.domain) (name_count s) s.pairs.keys s.from s.kept unmet.pairs
+  still-given = given-are (problem_of s) (worlds_in s.worlds) vs (trees s.nodes) n made unmet.last (signature_of s.task.problem.domain)
+      (name_count s) s.pairs.keys s.from s.kept unmet.pairs
 
   pub still-named : Each (WorldIsNamed (name_count s)) vs
-  still-named = subst (Each (WorldIsNamed (name_count s))) (sym made) (each-taken (WorldIsNamed (name_count s)) n (worlds_in s.worlds) s.named_worlds)
+  still-named = subst (Each (WorldIsNamed (name_count s))) (sym made) (each-taken (WorldIsNamed (name_count s)) n
+      (worlds_in s.worlds) s.named_worlds)
 
   pub still-kept : AreKeptBy (signature_of s.task.problem.domain) (name_count s) (problem_of s) vs (trees s.nodes) s.pairs.keys s.from
-  still-kept = kept-are (problem_of s) (worlds_in s.worlds) vs (trees s.nodes) n made unmet.last (signature_of s.task.problem.domain) (name_count s) s.pairs.keys s.from s.kept unmet.pairs
+  still-kept = kept-are (problem_of s) (worlds_in s.worlds) vs (trees s.nodes) n made unmet.last (signature_of s.task.problem.domain)
+      (name_count s) s.pairs.keys s.from s.kept unmet.pairs
 
   pub still-remembered : AreRemembered (problem_of s) vs (trees s.nodes) s.pairs.keys s.arrivals
-  still-remembered = remembered-are (problem_of s) (worlds_in s.worlds) vs (trees s.nodes) n made unmet.last s.pairs.keys still-given s.arrivals s.remembered unmet.arrivals
+  still-remembered = remembered-are (problem_of s) (worlds_in s.worlds) vs
+      (trees s.nodes) n made unmet.last s.pairs.keys still-given s.arrivals s.remembered unmet.arrivals
 
-  pub still-found : (r : Residuals) → ((k : ℕ) → found_in r n k ≡ None) → ((m k i : ℕ) → found_in r m k ≡ Some i → found_in s.residuals m k ≡ Some i) → AreFound (problem_of s) vs (trees s.nodes) r
-  still-found r none fewer = found-are (problem_of s) (worlds_in s.worlds) vs (trees s.nodes) n made unmet.last s.residuals r s.found none fewer
+  pub still-found : (r : Residuals) → ((k : ℕ) → found_in r n k ≡ None) →
+      ((m k i : ℕ) → found_in r m k ≡ Some i → found_in s.residuals m k ≡ Some i) → AreFound (problem_of s) vs (trees s.nodes) r
+  still-found r none fewer = found-are (problem_of s) (worlds_in s.worlds) vs
+      (trees s.nodes) n made unmet.last s.residuals r s.found none fewer
 
   pub kept-as-before : kept_over vs (trees s.nodes) s.pairs.keys (paths_of s.from) ≡ kept_of s
-  kept-as-before = sym (kept-is (problem_of s) (worlds_in s.worlds) vs (trees s.nodes) n made unmet.last s.pairs.keys still-given (paths_of s.from))
+  kept-as-before = sym (kept-is (problem_of s) (worlds_in s.worlds) vs (trees s.nodes) n made unmet.last s.pairs.keys still-given
+      (paths_of s.from))
 
   pub kept-stay : Stay (kept_of s) (kept_over vs (trees s.nodes) s.pairs.keys (paths_of s.from))
   kept-stay i x e = subst (λ xs. slice_get xs i ≡ Some x) (sym kept-as-before) e
@@ -125,16 +139,20 @@ one-fewer ws vs n last e = e ∙ ap (λ k. take k ws) (omega (arith, last))
 
 -- ---- a world that nothing is kept of
 
-before-new : (p : PlainProblem) (ws : List World) (ts : List FormulaTree) (ns : List Numbers) (n : ℕ) → n ≡ length ws → (es : List (Numbers × Arrival)) → AreRemembered p ws ts ns es → Each (λ (e : Numbers × Arrival). e.0.world < n) es
+before-new : (p : PlainProblem) (ws : List World) (ts : List FormulaTree) (ns : List Numbers) (n : ℕ) → n ≡ length ws →
+    (es : List (Numbers × Arrival)) → AreRemembered p ws ts ns es → Each (λ (e : Numbers × Arrival). e.0.world < n) es
 before-new p ws ts ns n q [] h = tt
 before-new p ws ts ns n q (e ∷ es) h = (subst (λ k. e.0.world < k) (sym q) h.0.world, before-new p ws ts ns n q es h.1)
 
 -- a world that has just got its number
-pub new-is-unmet : (s t : Space) (key : Numbers) → KeepsPairs s t → MeetsOneMore s t → AreNumbersIn t key → key.world ≡ length (worlds_in s.worlds) → IsLastUnmet t key.world
+pub new-is-unmet : (s t : Space) (key : Numbers) → KeepsPairs s t → MeetsOneMore s t → AreNumbersIn t key → key.world ≡
+    length (worlds_in s.worlds) → IsLastUnmet t key.world
 new-is-unmet s t key k m h q = record {
   last = let a = h.world in let b = m.worlds in omega (arith, a, b, q);
-  pairs = λ i n e. subst (λ x. n.world < x) (sym q) (s.kept.numbers i n (ap (λ (ns : List Numbers). slice_get ns i) (sym k.pairs) ∙ e)).world;
-  arrivals = subst (Each (λ (e : Numbers × Arrival). e.0.world < key.world)) (sym m.arrivals) (before-new (problem_of s) (worlds_in s.worlds) (trees s.nodes) s.pairs.keys key.world q s.arrivals s.remembered);
+  pairs = λ i n e. subst (λ x. n.world < x) (sym q) (s.kept.numbers i n
+      (ap (λ (ns : List Numbers). slice_get ns i) (sym k.pairs) ∙ e)).world;
+  arrivals = subst (Each (λ (e : Numbers × Arrival). e.0.world < key.world)) (sym m.arrivals)
+      (before-new (problem_of s) (worlds_in s.worlds) (trees s.nodes) s.pairs.keys key.world q s.arrivals s.remembered);
 }
 
 pub unmet-later : (s t : Space) (n : ℕ) → KeepsPairs s t → KeepsMet s t → IsLastUnmet s n → IsLastUnmet t n

@@ -1,5 +1,6 @@
 -- What a set's answers say of its keys, where the test of equality tells which are the same.
-use Rattle.std.proofs.Common.{◌≡◌, ◌||◌, ◌<◌, ◌+◌, cond, position, nat_lt, ℕ, suc, Bool, true, false, not, List, [], ◌∷◌, ◌++◌, length, slice_get, Some, inl, inr, refl, sym, ap, subst, ◌∙◌, if◌then◌else◌, arith}
+use Rattle.std.proofs.Common.{◌≡◌, ◌||◌, ◌<◌, ◌+◌, cond, position, nat_lt, ℕ, suc, Bool, true, false, not, List, [], ◌∷◌, ◌++◌, length}
+use Rattle.std.proofs.Common.{slice_get, Some, inl, inr, refl, sym, ap, subst, ◌∙◌, if◌then◌else◌, arith}
 use Rattle.std.specs.List.{list_any, position_or_len}
 use Rattle.std.proofs.lemmas.Option.{cond_some}
 use borrow.Author.Tests.{ltb-true}
@@ -21,12 +22,15 @@ step p x xs = by (p x)
     by true = refl
     by false = omega arith
 
-passes : {X : Type 0} (p : X → Bool) (xs : List X) → position_or_len p xs < length xs → (k : X) × (slice_get xs (position_or_len p xs) ≡ Some k) × (p k ≡ true)
+passes : {X : Type 0} (p : X → Bool) (xs : List X) → position_or_len p xs < length xs → (k : X) ×
+    (slice_get xs (position_or_len p xs) ≡ Some k) × (p k ≡ true)
 passes p [] h = let b : ⊥ = omega arith in absurd b
 passes {X} p (x ∷ xs) h = by (p x) refl (passes p xs)
   where
-    by : (b : Bool) → p x ≡ b → (position_or_len p xs < length xs → (k : X) × (slice_get xs (position_or_len p xs) ≡ Some k) × (p k ≡ true)) → (k : X) × (slice_get (x ∷ xs) (position_or_len p (x ∷ xs)) ≡ Some k) × (p k ≡ true)
-    by true e rest = let q : position_or_len p (x ∷ xs) ≡ 0 = step p x xs ∙ ap (λ b. cond b 0 (suc (position_or_len p xs))) e in (x, ap (slice_get (x ∷ xs)) q, e)
+    by : (b : Bool) → p x ≡ b → (position_or_len p xs < length xs → (k : X) × (slice_get xs (position_or_len p xs) ≡ Some k) × (p k ≡ true))
+        → (k : X) × (slice_get (x ∷ xs) (position_or_len p (x ∷ xs)) ≡ Some k) × (p k ≡ true)
+    by true e rest = let q : position_or_len p (x ∷ xs) ≡ 0 = step p x xs ∙ ap (λ b. cond b 0 (suc (position_or_len p xs))) e in
+        (x, ap (slice_get (x ∷ xs)) q, e)
     by false e rest =
         let q : position_or_len p (x ∷ xs) ≡ suc (position_or_len p xs) = step p x xs ∙ ap (λ b. cond b 0 (suc (position_or_len p xs))) e in
         let k = rest (let l : suc (position_or_len p xs) < suc (length xs) = subst (λ n. n < suc (length xs)) q h in omega arith) in
@@ -51,5 +55,10 @@ module _ {K : Type 0} (eq : K → K → Bool) (tells : Tells eq) where
       by true e r = absurd (h 0 (ap (λ z. Some z) (sym ((tells x k).0 e))))
       by false e r = ap (λ b. b || list_any (eq x) ks) e ∙ r
 
-  pub new-place : (x : K) (ks ls : List K) (i : ℕ) → ls ≡ ks ++ x ∷ [] → ((j : ℕ) → slice_get ks j ≡ Some x → ⊥) → slice_get ls i ≡ Some x → i ≡ length ks
-  new-place x ks ls i e h f = elim (get-either ks x i x (subst (λ zs. slice_get zs i ≡ Some x) e f)) [ inl a ↦ absurd (h i a) | inr a ↦ a.0 ]
+  pub new-place : (x : K) (ks ls : List K) (i : ℕ) → ls ≡ ks ++ x ∷ [] → ((j : ℕ) → slice_get ks j ≡ Some x → ⊥) → slice_get ls i ≡ Some x →
+      i ≡ length ks
+  new-place x ks ls i e h f = elim (get-either ks x i x (subst (λ zs. slice_get zs i ≡ Some x) e f)) [
+    | inl a ↦ absurd
+        (h i a)
+    | inr a ↦ a.0
+  ]

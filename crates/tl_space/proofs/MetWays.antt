@@ -1,5 +1,6 @@
 -- How pairs were met first, by the numbers of their actions.
-use Rattle.std.proofs.Common.{◌≡◌, ◌<◌, ◌≤◌, ℕ, Result, Ok, Err, OnErr, zero, suc, List, [], ◌∷◌, ◌++◌, length, map, get_or, take, slice_get, Some, refl, sym, ap, ◌∙◌, subst, arith}
+use Rattle.std.proofs.Common.{◌≡◌, ◌<◌, ◌≤◌, ℕ, Result, Ok, Err, OnErr, zero, suc, List, [], ◌∷◌, ◌++◌, length, map, get_or, take}
+use Rattle.std.proofs.Common.{slice_get, Some, refl, sym, ap, ◌∙◌, subst, arith}
 use Rattle.std.specs.Option.{option_map}
 use Rattle.std.proofs.lemmas.List.{map-append, length-map}
 use Rattle.std.proofs.lemmas.Option.{get_or_from_slice_get, slice_get-map, slice_get_read, slice_get_within}
@@ -42,7 +43,8 @@ module _ (us bs : List Action) (stay : Stay us bs) where
 pub ways-more : (us : List Action) (ws vs : List Way) (w : Way) → vs ≡ ws ++ w ∷ [] → Each (IsWay us) ws → IsWay us w → Each (IsWay us) vs
 ways-more us ws vs w e h k = subst (Each (IsWay us)) (sym e) ((Each-append (IsWay us) ws (w ∷ [])).1 (h, (k, tt)))
 
-pub mets-more : (us : List Action) (ws vs : List Way) (w : Way) (m : Met) → vs ≡ ws ++ w ∷ [] → met_by us w ≡ m → mets_of us vs ≡ mets_of us ws ++ m ∷ []
+pub mets-more : (us : List Action) (ws vs : List Way) (w : Way) (m : Met) → vs ≡ ws ++ w ∷ [] → met_by us w ≡ m → mets_of us vs ≡
+    mets_of us ws ++ m ∷ []
 mets-more us ws vs w m e f = ap (mets_of us) e ∙ (map-append (met_by us) ws (w ∷ []) ∙ ap (λ (x : Met). mets_of us ws ++ x ∷ []) f)
 
 -- the first ways alone

@@ -25,17 +25,22 @@ paths-named : (c : ℕ) (ms : List Met) → Each (IsNamedMet c) ms → Each (Eac
 unfolding paths_of path_by
 paths-named c = by_last (λ ms. Each (IsNamedMet c) ms → Each (Each (ArgumentsAreNamed c)) (paths_of ms)) (λ h. tt) more
   where
-    by_way : (ps : List (List Action)) (m : Met) → Each (Each (ArgumentsAreNamed c)) ps → IsNamedMet c m → Each (ArgumentsAreNamed c) (path_by ps m)
+    by_way : (ps : List (List Action)) (m : Met) → Each (Each (ArgumentsAreNamed c)) ps → IsNamedMet c m →
+        Each (ArgumentsAreNamed c) (path_by ps m)
     by_way ps met.First h k = tt
     by_way ps (met.After j a) h k = each-more (ArgumentsAreNamed c) (path_at ps j) a (each-at (Each (ArgumentsAreNamed c)) ps j [] h tt) k
 
-    more : (ms : List Met) (m : Met) → (Each (IsNamedMet c) ms → Each (Each (ArgumentsAreNamed c)) (paths_of ms)) → Each (IsNamedMet c) (ms ++ m ∷ []) → Each (Each (ArgumentsAreNamed c)) (paths_of (ms ++ m ∷ []))
+    more : (ms : List Met) (m : Met) → (Each (IsNamedMet c) ms → Each (Each (ArgumentsAreNamed c)) (paths_of ms)) →
+        Each (IsNamedMet c) (ms ++ m ∷ []) → Each (Each (ArgumentsAreNamed c)) (paths_of (ms ++ m ∷ []))
     more ms m earlier h =
         let k = (Each-append (IsNamedMet c) ms (m ∷ [])).0 h in
-        subst (Each (Each (ArgumentsAreNamed c))) (sym (paths-snoc ms m)) (each-more (Each (ArgumentsAreNamed c)) (paths_of ms) (path_by (paths_of ms) m) (earlier k.0) (by_way (paths_of ms) m (earlier k.0) k.1.0))
+        subst (Each (Each (ArgumentsAreNamed c))) (sym (paths-snoc ms m))
+        (each-more (Each (ArgumentsAreNamed c)) (paths_of ms) (path_by (paths_of ms) m) (earlier k.0)
+        (by_way (paths_of ms) m (earlier k.0) k.1.0))
 
 -- so those of one pair
 pub path-named : (s : Space) (at : ℕ) (x : KeptPair) → slice_get (kept_of s) at ≡ Some x → Each (ArgumentsAreNamed (name_count s)) x.path
 path-named s at x e =
     let k = kept-get (worlds_in s.worlds) (trees s.nodes) s.pairs.keys (paths_of s.from) at x e in
-    (Each-Among (Each (ArgumentsAreNamed (name_count s))) (paths_of s.from)).0 (paths-named (name_count s) s.from s.kept.named) x.path (among-at (paths_of s.from) at x.path k.is_path)
+    (Each-Among (Each (ArgumentsAreNamed (name_count s))) (paths_of s.from)).0 (paths-named (name_count s) s.from s.kept.named) x.path
+    (among-at (paths_of s.from) at x.path k.is_path)

@@ -27,12 +27,25 @@ unfolding world_after
 after-changes w c dels adds d a = λ i. with_all (without_all w.facts (map fact_key (sym d i))) (map fact_key (sym a i))
 
 -- the changes of the action of a pair
-pub pruned-after : (p : PlainProblem) (x : Pair) (a : Action) (w : World) (f : FormulaTree) (c : Changes) (dels adds : List Fact) → x.world ≡ w → x.formula ≡ f → dels ≡ c.dels → adds ≡ c.adds → Some (world_after w c) ≡ step p w a → LeavesTruth false f dels adds → IsPrunedAfter p x a
-pruned-after p x a w f c dels adds is_w is_f d e s leaves =
-    (world_after w c, ap (λ (v : World). step p v a) is_w ∙ sym s, ap (progressed (situation_of p (world_after w c)) no_values) is_f ∙ leaves p w (world_after w c) (after-changes w c dels adds d e))
+pub pruned-after : (p : PlainProblem) (x : Pair) (a : Action) (w : World) (f : FormulaTree) (c : Changes) (dels adds : List Fact) →
+    x.world ≡ w → x.formula ≡ f → dels ≡ c.dels → adds ≡ c.adds → Some (world_after w c) ≡ step p w a → LeavesTruth false f dels adds →
+    IsPrunedAfter p x a
+pruned-after p x a w f c dels adds is_w is_f d e s leaves = (
+  world_after w c,
+  ap (λ (v : World). step p v a) is_w ∙ sym s,
+  ap (progressed (situation_of p (world_after w c)) no_values) is_f ∙
+      leaves p w (world_after w c) (after-changes w c dels adds d e),
+)
 
 -- the pair arrives as a pruned one
-pub pruned-arrives : (p : PlainProblem) (x : KeptPair) (a : Action) (old new : List KeptPair) (path : List Action) → new ≡ old → IsPrunedAfter p x.node a → Arrives old new (next_pair p x.node a) path arrival.Pruned
+pub pruned-arrives : (p : PlainProblem) (x : KeptPair) (a : Action) (old new : List KeptPair) (path : List Action) → new ≡ old →
+    IsPrunedAfter p x.node a → Arrives old new (next_pair p x.node a) path arrival.Pruned
 unfolding pair_in
-pruned-arrives p x a old new path same h =
-    (same, (record { world = h.0; formula = progressed (situation_of p h.0) no_values x.node.formula }, ap (option_map (pair_in p x.node.formula)) h.1, h.2))
+pruned-arrives p x a old new path same h = (
+  same,
+  (
+    record { world = h.0; formula = progressed (situation_of p h.0) no_values x.node.formula },
+    ap (option_map (pair_in p x.node.formula)) h.1,
+    h.2,
+  ),
+)

@@ -1,5 +1,6 @@
 -- What is remembered of arrivals stays right.
-use Rattle.std.proofs.Common.{◌≡◌, Bool, true, false, cond, List, [], ◌∷◌, ◌++◌, slice_get, Some, ◌⊎◌, inl, inr, refl, sym, ap, subst, ◌∙◌, if◌then◌else◌}
+use Rattle.std.proofs.Common.{◌≡◌, Bool, true, false, cond, List, [], ◌∷◌, ◌++◌, slice_get, Some, ◌⊎◌, inl, inr, refl, sym, ap, subst, ◌∙◌}
+use Rattle.std.proofs.Common.{if◌then◌else◌}
 use Rattle.std.proofs.lemmas.List.{map-append}
 use Rattle.std.specs.Map.{lookup}
 use Rattle.indexmap.specs.IndexMap.{insert_entry}
@@ -25,14 +26,16 @@ use Rattle.tl_space.proofs.Growing.{stay-longer, world-stays, tree-stays, nodes-
 -- ---- worlds and trees that stay
 
 -- the pair of an arrival stays the same
-pub arriving-stays : (p : PlainProblem) (ws vs : List World) (ts us : List FormulaTree) (n : Numbers) → IsGiven ws ts n → Stay ws vs → Stay ts us → pair_in_at p vs us n ≡ pair_in_at p ws ts n
+pub arriving-stays : (p : PlainProblem) (ws vs : List World) (ts us : List FormulaTree) (n : Numbers) → IsGiven ws ts n → Stay ws vs →
+    Stay ts us → pair_in_at p vs us n ≡ pair_in_at p ws ts n
 unfolding pair_in_at
 arriving-stays p ws vs ts us n h s t =
     let w = world-stays ws vs n.world s h.0 in
     let f = tree-stays ts us n.label t h.1 in
     λ i. record { world = w i; formula = progressed (situation_of p (w i)) no_values (f i) }
 
-remembered-stays : (p : PlainProblem) (ws vs : List World) (ts us : List FormulaTree) (ns : List Numbers) (e : Numbers × Arrival) → AreGiven ws ts ns → Stay ws vs → Stay ts us → IsRemembered p ws ts ns e → IsRemembered p vs us ns e
+remembered-stays : (p : PlainProblem) (ws vs : List World) (ts us : List FormulaTree) (ns : List Numbers) (e : Numbers × Arrival) →
+    AreGiven ws ts ns → Stay ws vs → Stay ts us → IsRemembered p ws ts ns e → IsRemembered p vs us ns e
 remembered-stays p ws vs ts us ns e given s t h = record {
   world = stay-longer ws vs e.0.world s h.world;
   label = stay-longer ts us e.0.label t h.label;
@@ -41,9 +44,14 @@ remembered-stays p ws vs ts us ns e given s t h = record {
       (subst (λ (x : Pair). IsKnown (nodes_at ws ts ns) x e.1) (sym (arriving-stays p ws vs ts us e.0 (h.world, h.label) s t)) h.known);
 }
 
-pub all-remembered-stay : (p : PlainProblem) (ws vs : List World) (ts us : List FormulaTree) (ns : List Numbers) (es : List (Numbers × Arrival)) → AreGiven ws ts ns → Stay ws vs → Stay ts us → AreRemembered p ws ts ns es → AreRemembered p vs us ns es
+pub all-remembered-stay : (p : PlainProblem) (ws vs : List World) (ts us : List FormulaTree) (ns : List Numbers)
+    (es : List (Numbers × Arrival)) → AreGiven ws ts ns → Stay ws vs → Stay ts us → AreRemembered p ws ts ns es →
+    AreRemembered p vs us ns es
 all-remembered-stay p ws vs ts us ns [] given s t h = tt
-all-remembered-stay p ws vs ts us ns (e ∷ es) given s t h = (remembered-stays p ws vs ts us ns e given s t h.0, all-remembered-stay p ws vs ts us ns es given s t h.1)
+all-remembered-stay p ws vs ts us ns (e ∷ es) given s t h = (
+  remembered-stays p ws vs ts us ns e given s t h.0,
+  all-remembered-stay p ws vs ts us ns es given s t h.1,
+)
 
 -- ---- one more pair
 
@@ -52,13 +60,21 @@ known-more xs ys x arrival.Pruned s h = h
 known-more xs ys x (arrival.Seen k) s h = s k x h
 known-more xs ys x (arrival.Fresh k) s h = h
 
-pub nodes-more : (ws : List World) (ts : List FormulaTree) (ns : List Numbers) (n : Numbers) → nodes_at ws ts (ns ++ n ∷ []) ≡ nodes_at ws ts ns ++ node_at ws ts n ∷ []
+pub nodes-more : (ws : List World) (ts : List FormulaTree) (ns : List Numbers) (n : Numbers) → nodes_at ws ts (ns ++ n ∷ []) ≡
+    nodes_at ws ts ns ++ node_at ws ts n ∷ []
 nodes-more ws ts ns n = map-append (node_at ws ts) ns (n ∷ [])
 
-pub all-remembered-more : (p : PlainProblem) (ws : List World) (ts : List FormulaTree) (ns : List Numbers) (n : Numbers) (es : List (Numbers × Arrival)) → AreRemembered p ws ts ns es → AreRemembered p ws ts (ns ++ n ∷ []) es
+pub all-remembered-more : (p : PlainProblem) (ws : List World) (ts : List FormulaTree) (ns : List Numbers) (n : Numbers)
+    (es : List (Numbers × Arrival)) → AreRemembered p ws ts ns es → AreRemembered p ws ts (ns ++ n ∷ []) es
 all-remembered-more p ws ts ns n [] h = tt
 all-remembered-more p ws ts ns n (e ∷ es) h = (
-  record { world = h.0.world; label = h.0.label; known = known-more (nodes_at ws ts ns) (nodes_at ws ts (ns ++ n ∷ [])) (pair_in_at p ws ts e.0) e.1 (λ i x g. subst (λ (xs : List Pair). slice_get xs i ≡ Some x) (sym (nodes-more ws ts ns n)) (get-old (nodes_at ws ts ns) (node_at ws ts n ∷ []) i x g)) h.0.known },
+  record {
+    world = h.0.world;
+    label = h.0.label;
+    known = known-more (nodes_at ws ts ns) (nodes_at ws ts (ns ++ n ∷ []))
+        (pair_in_at p ws ts e.0) e.1 (λ i x g. subst (λ (xs : List Pair). slice_get xs i ≡ Some x) (sym (nodes-more ws ts ns n))
+        (get-old (nodes_at ws ts ns) (node_at ws ts n ∷ []) i x g)) h.0.known;
+  },
   all-remembered-more p ws ts ns n es h.1,
 )
 
@@ -82,15 +98,18 @@ each-more P xs x (y ∷ ys) h e p = (by h.0, each-more P xs x ys h.1 e p)
 
 -- ---- the entries of a map
 
-pub picked : {K X : Type 0} (P : K × X → Type 0) (eq : K → K → Bool) (tells : Tells eq) (k : K) (v : X) (es : List (K × X)) → Each P es → lookup (eq k) es ≡ Some v → P (k, v)
+pub picked : {K X : Type 0} (P : K × X → Type 0) (eq : K → K → Bool) (tells : Tells eq) (k : K) (v : X) (es : List (K × X)) → Each P es →
+    lookup (eq k) es ≡ Some v → P (k, v)
 picked P eq tells k v [] h e = let b : ⊥ = cc in absurd b
 picked P eq tells k v (x ∷ es) h e = by (eq k x.0) refl (picked P eq tells k v es h.1)
   where
     by : (b : Bool) → eq k x.0 ≡ b → (lookup (eq k) es ≡ Some v → P (k, v)) → P (k, v)
-    by true q rest = let d : x.1 ≡ v = (let f : Some x.1 ≡ Some v = sym (ap (λ b. cond b (Some x.1) (lookup (eq k) es)) q) ∙ e in cc) in let c : k ≡ x.0 = (tells k x.0).0 q in subst P (λ i. (sym c i, d i)) h.0
+    by true q rest = let d : x.1 ≡ v = (let f : Some x.1 ≡ Some v = sym (ap (λ b. cond b (Some x.1) (lookup (eq k) es)) q) ∙ e in cc) in
+        let c : k ≡ x.0 = (tells k x.0).0 q in subst P (λ i. (sym c i, d i)) h.0
     by false q rest = rest (sym (ap (λ b. cond b (Some x.1) (lookup (eq k) es)) q) ∙ e)
 
-pub inserted-each : {K X : Type 0} (P : K × X → Type 0) (eq : K → K → Bool) → Tells eq → (k : K) (v : X) (es : List (K × X)) → Each P es → P (k, v) → Each P (insert_entry eq es k v)
+pub inserted-each : {K X : Type 0} (P : K × X → Type 0) (eq : K → K → Bool) → Tells eq → (k : K) (v : X) (es : List (K × X)) → Each P es →
+    P (k, v) → Each P (insert_entry eq es k v)
 inserted-each P eq tells k v [] h p = (p, tt)
 inserted-each P eq tells k v (x ∷ es) h p = by (eq k x.0) refl (inserted-each P eq tells k v es h.1 p)
   where

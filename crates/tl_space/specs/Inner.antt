@@ -99,7 +99,8 @@ IsArrivalFound s key (found.New n) = IsToKeep s key n
 
 -- progressing the formula of the arrival in its world is the cause
 abbrev pub IsProgressFault : Space → Numbers → EvalFault → Type 0
-IsProgressFault s n fault = IsCausedBy (looked_by_progressing (problem_of s) (world_at (worlds_in s.worlds) n.world) (tree_at (trees s.nodes) n.label)) fault
+IsProgressFault s n fault = IsCausedBy (looked_by_progressing (problem_of s) (world_at (worlds_in s.worlds) n.world)
+    (tree_at (trees s.nodes) n.label)) fault
 
 -- these numbers are of the arrival at the empty path: the first world, in which the control formula
 -- comes in

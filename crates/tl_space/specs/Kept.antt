@@ -87,7 +87,8 @@ MayMeet ms (met.After j a) = j < length ms
 
 -- what is kept: each pair once, with the way by which it was met first, which leads to it from the
 -- pairs before it
-pub record AreKeptBy (g : Signature) (c : ℕ) (p : PlainProblem) (ws : List World) (ts : List FormulaTree) (ns : List Numbers) (ms : List Met) : Type 0 where
+pub record AreKeptBy (g : Signature) (c : ℕ) (p : PlainProblem) (ws : List World) (ts : List FormulaTree) (ns : List Numbers)
+    (ms : List Met) : Type 0 where
   pub all_met : length ms ≡ length ns
   pub once : IsOnce ns
   pub numbers : (i : ℕ) (n : Numbers) → slice_get ns i ≡ Some n → AreNumbers g c ws ts n

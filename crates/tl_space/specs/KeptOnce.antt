@@ -44,13 +44,21 @@ met-prop c met.First = hlevel
 met-prop c (met.After j a) = values-prop c a.args
 
 walks-prop : (p : PlainProblem) (kept : List KeptPair) → IsProp (AreWalks p kept)
-walks-prop p kept = Π_prop (λ i. Π_prop (λ x. Π_prop (λ e. hedberg (option_discrete pair_discrete) (walk (pair_graph p) x.path) (Some x.node))))
+walks-prop p kept = Π_prop (λ i. Π_prop (λ x. Π_prop (λ e. hedberg (option_discrete pair_discrete) (walk (pair_graph p) x.path)
+    (Some x.node))))
 
-all_numbers-prop : (g : Signature) (c : ℕ) (ws : List World) (ts : List FormulaTree) (ns : List Numbers) → IsProp ((i : ℕ) (n : Numbers) → slice_get ns i ≡ Some n → AreNumbers g c ws ts n)
+all_numbers-prop : (g : Signature) (c : ℕ) (ws : List World) (ts : List FormulaTree) (ns : List Numbers) →
+    IsProp ((i : ℕ) (n : Numbers) → slice_get ns i ≡ Some n → AreNumbers g c ws ts n)
 all_numbers-prop g c ws ts ns = Π_prop (λ i. Π_prop (λ n. Π_prop (λ e. numbers-prop g c ws ts n)))
 
-pub kept-prop : (g : Signature) (c : ℕ) (p : PlainProblem) (ws : List World) (ts : List FormulaTree) (ns : List Numbers) (ms : List Met) → IsProp (AreKeptBy g c p ws ts ns ms)
-kept-prop g c p ws ts ns ms = hlevel (props, all_numbers-prop g c ws ts ns, walks-prop p (kept_over ws ts ns (paths_of ms)), Each-prop (IsNamedMet c) (met-prop c) ms)
+pub kept-prop : (g : Signature) (c : ℕ) (p : PlainProblem) (ws : List World) (ts : List FormulaTree) (ns : List Numbers) (ms : List Met) →
+    IsProp (AreKeptBy g c p ws ts ns ms)
+kept-prop g c p ws ts ns ms = hlevel (
+  props,
+  all_numbers-prop g c ws ts ns,
+  walks-prop p (kept_over ws ts ns (paths_of ms)),
+  Each-prop (IsNamedMet c) (met-prop c) ms,
+)
 
 -- ---- what is remembered
 
@@ -59,14 +67,18 @@ known-prop xs x arrival.Pruned = hedberg formula_discrete x.formula falsum
 known-prop xs x (arrival.Seen k) = hedberg (option_discrete pair_discrete) (slice_get xs k) (Some x)
 known-prop xs x (arrival.Fresh k) = hlevel
 
-remembered-prop : (p : PlainProblem) (ws : List World) (ts : List FormulaTree) (ns : List Numbers) (e : Numbers × Arrival) → IsProp (IsRemembered p ws ts ns e)
+remembered-prop : (p : PlainProblem) (ws : List World) (ts : List FormulaTree) (ns : List Numbers) (e : Numbers × Arrival) →
+    IsProp (IsRemembered p ws ts ns e)
 remembered-prop p ws ts ns e = hlevel (props, known-prop (nodes_at ws ts ns) (pair_in_at p ws ts e.0) e.1)
 
-pub all-remembered-prop : (p : PlainProblem) (ws : List World) (ts : List FormulaTree) (ns : List Numbers) (es : List (Numbers × Arrival)) → IsProp (AreRemembered p ws ts ns es)
+pub all-remembered-prop : (p : PlainProblem) (ws : List World) (ts : List FormulaTree) (ns : List Numbers) (es : List (Numbers × Arrival)) →
+    IsProp (AreRemembered p ws ts ns es)
 all-remembered-prop p ws ts ns es = Each-prop (IsRemembered p ws ts ns) (remembered-prop p ws ts ns) es
 
-next-prop : (p : PlainProblem) (w : World) (ts : List FormulaTree) (i : ℕ) (f : FormulaTree) → IsProp ((e : Assignment) → slice_get ts i ≡ Some (residual p w e f))
+next-prop : (p : PlainProblem) (w : World) (ts : List FormulaTree) (i : ℕ) (f : FormulaTree) →
+    IsProp ((e : Assignment) → slice_get ts i ≡ Some (residual p w e f))
 next-prop p w ts i f = Π_prop (λ e. hedberg (option_discrete formula_discrete) (slice_get ts i) (Some (residual p w e f)))
 
 pub found-prop : (p : PlainProblem) (ws : List World) (ts : List FormulaTree) (r : Residuals) → IsProp (AreFound p ws ts r)
-found-prop p ws ts r = Π_prop (λ n. Π_prop (λ k. Π_prop (λ i. Π_prop (λ h. hlevel (props, next-prop p (world_at ws n) ts i (tree_at ts k))))))
+found-prop p ws ts r = Π_prop (λ n. Π_prop (λ k. Π_prop (λ i. Π_prop (λ h.
+    hlevel (props, next-prop p (world_at ws n) ts i (tree_at ts k))))))

@@ -19,7 +19,11 @@ use Rattle.tl_space.specs.declared.numbers.Numbers.{Numbers}
 
 -- the pair of an arrival: the world, with the formula that comes in progressed through it
 unfoldable pub pair_in_at : PlainProblem → List World → List FormulaTree → Numbers → Pair
-pair_in_at p ws ts n = record { world = world_at ws n.world; formula = progressed (situation_of p (world_at ws n.world)) no_values (tree_at ts n.label) }
+pair_in_at p ws ts n = record {
+  world = world_at ws n.world;
+  formula =
+      progressed (situation_of p (world_at ws n.world)) no_values (tree_at ts n.label);
+}
 
 -- what is known of a pair, among those that are kept: it is pruned, or is kept under this number
 abbrev pub IsKnown : List Pair → Pair → Arrival → Type 0
@@ -28,7 +32,8 @@ IsKnown xs x (arrival.Seen k) = slice_get xs k ≡ Some x
 IsKnown xs x (arrival.Fresh k) = ⊥
 
 -- the world and the formula have numbers, and this is known of the pair of their arrival
-pub record IsRemembered (p : PlainProblem) (ws : List World) (ts : List FormulaTree) (ns : List Numbers) (e : Numbers × Arrival) : Type 0 where
+pub record IsRemembered (p : PlainProblem) (ws : List World) (ts : List FormulaTree) (ns : List Numbers)
+    (e : Numbers × Arrival) : Type 0 where
   pub world : e.0.world < length ws
   pub label : e.0.label < length ts
   pub known : IsKnown (nodes_at ws ts ns) (pair_in_at p ws ts e.0) e.1
@@ -40,4 +45,5 @@ AreRemembered p ws ts ns es = Each (IsRemembered p ws ts ns) es
 -- what is kept of worlds for progression: the worlds and the formulas have numbers, and it is what
 -- has to hold next
 abbrev pub AreFound : PlainProblem → List World → List FormulaTree → Residuals → Type 0
-AreFound p ws ts r = (n k i : ℕ) → found_in r n k ≡ Some i → (n < length ws) × ((k < length ts) × ((e : Assignment) → slice_get ts i ≡ Some (residual p (world_at ws n) e (tree_at ts k))))
+AreFound p ws ts r = (n k i : ℕ) → found_in r n k ≡ Some i → (n < length ws) ×
+    ((k < length ts) × ((e : Assignment) → slice_get ts i ≡ Some (residual p (world_at ws n) e (tree_at ts k))))

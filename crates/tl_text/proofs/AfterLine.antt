@@ -1,5 +1,6 @@
 -- Forms that stand after a line without forms: what bytes spell, they spell there too.
-use Rattle.std.proofs.Common.{◌≡◌, ◌≢◌, ℕ, zero, suc, ◌+◌, ◌-◌, ◌<◌, List, [], ◌∷◌, ◌++◌, length, slice_index, slice_range, inl, inr, sym, ap, ◌∙◌, subst, length-append, arith}
+use Rattle.std.proofs.Common.{◌≡◌, ◌≢◌, ℕ, zero, suc, ◌+◌, ◌-◌, ◌<◌, List, [], ◌∷◌, ◌++◌, length, slice_index, slice_range, inl, inr, sym}
+use Rattle.std.proofs.Common.{ap, ◌∙◌, subst, length-append, arith}
 use Rattle.std.proofs.lemmas.Bool.{cases_lt, false≢true}
 use Rattle.std.proofs.lemmas.Grind.{same_number_lists}
 use Rattle.std.proofs.lemmas.List.{get_or_append_left, get_or-append-add}
@@ -47,7 +48,8 @@ module _ (line bytes : List ℕ) where
   line_end =
       let m = one_more in
       let same : length line ≡ length line + 0 = omega arith in
-      get_or_append_left (line ++ 10 ∷ []) bytes 0 (length line) (omega arith) ∙ (ap (slice_index (line ++ 10 ∷ [])) same ∙ get_or-append-add line (10 ∷ []) 0 0)
+      get_or_append_left (line ++ 10 ∷ []) bytes 0 (length line) (omega arith) ∙
+      (ap (slice_index (line ++ 10 ∷ [])) same ∙ get_or-append-add line (10 ∷ []) 0 0)
 
   -- a comment after the line began there
   comment_back : (k : ℕ) → IsInComment all (n + k) → IsInComment bytes k
@@ -83,13 +85,23 @@ module _ (line bytes : List ℕ) where
   token_at_on k t =
       let within = t.within in
       let m = long in
-      record { within = omega arith; token_byte = ap is_token_byte (later_byte k) ∙ t.token_byte; outside = λ c. t.outside (comment_back k c) }
+      record {
+        within = omega arith;
+        token_byte = ap is_token_byte (later_byte k) ∙ t.token_byte;
+        outside = λ c.
+            t.outside (comment_back k c);
+      }
 
   token_at_back : (k : ℕ) → IsTokenAt all (n + k) → IsTokenAt bytes k
   token_at_back k t =
       let within = t.within in
       let m = long in
-      record { within = omega arith; token_byte = sym (ap is_token_byte (later_byte k)) ∙ t.token_byte; outside = λ c. t.outside (comment_on k c) }
+      record {
+        within = omega arith;
+        token_byte = sym (ap is_token_byte (later_byte k)) ∙ t.token_byte;
+        outside = λ c.
+            t.outside (comment_on k c);
+      }
 
   no_token_at_end : (k : ℕ) → k + 1 ≡ n → IsTokenAt all k → ⊥
   no_token_at_end k e t =
@@ -146,7 +158,8 @@ module _ (line bytes : List ℕ) where
       same_number_lists (slice_range all (n + from) (n + to)) (slice_range bytes from to) (omega arith)
       (λ k lt.
       let place : n + from + k ≡ n + (from + k) = omega arith in
-      get_or-between all (n + from) (n + to) k 0 (omega arith) ∙ (ap (slice_index all) place ∙ (later_byte (from + k) ∙ sym (get_or-between bytes from to k 0 (omega arith)))))
+      get_or-between all (n + from) (n + to) k 0 (omega arith) ∙ (ap (slice_index all) place ∙
+      (later_byte (from + k) ∙ sym (get_or-between bytes from to k 0 (omega arith)))))
 
   mutual
     unfolding IsItem AreItems
@@ -161,12 +174,29 @@ module _ (line bytes : List ℕ) where
     item_on around from to (list fs at) h =
         let inner = h.3 in
         let begin : n + (from + 1) ≡ n + from + 1 = omega arith in
-        let end : n + to ≡ n + inner.0 + 1 = omega (arith, inner.1) in
-        (ap (λ (i : ℕ). n + i) h.0, h.1, stands_on from 40 h.2, (n + inner.0, end, stands_on inner.0 41 inner.2, subst (λ (i : ℕ). AreItems all (around + 1) i (n + inner.0) (moved_all n fs)) begin (items_on (around + 1) (from + 1) inner.0 fs inner.3)))
+        let end : n + to ≡ n + inner.0 + 1 = omega (arith, inner.1) in (
+          ap (λ (i : ℕ). n + i) h.0,
+          h.1,
+          stands_on from 40 h.2,
+          (
+            n + inner.0,
+            end,
+            stands_on inner.0 41 inner.2,
+            subst (λ (i : ℕ). AreItems all (around + 1) i (n + inner.0) (moved_all n fs)) begin
+                (items_on (around + 1) (from + 1) inner.0 fs inner.3),
+          ),
+        )
 
-    pub items_on : (around from to : ℕ) (fs : FormTrees) → AreItems bytes around from to fs → AreItems all around (n + from) (n + to) (moved_all n fs)
+    pub items_on : (around from to : ℕ) (fs : FormTrees) → AreItems bytes around from to fs →
+        AreItems all around (n + from) (n + to) (moved_all n fs)
     items_on around from to no_form h = gap_on from to h
-    items_on around from to (more_forms f fs) h = (n + h.0, n + h.1, gap_on from h.0 h.2, item_on around h.0 h.1 f h.3, items_on around h.1 to fs h.4)
+    items_on around from to (more_forms f fs) h = (
+      n + h.0,
+      n + h.1,
+      gap_on from h.0 h.2,
+      item_on around h.0 h.1 f h.3,
+      items_on around h.1 to fs h.4,
+    )
 
   -- a line is a gap, where it begins a comment and has no line feed before its end
   pub gap_of_line : slice_index all 0 ≡ 59 → ((k : ℕ) → k < length line → slice_index all k ≢ 10) → IsGap all 0 n
@@ -175,7 +205,13 @@ module _ (line bytes : List ℕ) where
       record {
         ordered = omega arith;
         skipped = λ k low high. elim (cases_lt k (length line)) [
-          | inl lt ↦ inr (record { begin = 0; before = omega arith; semicolon = begins; same_line = λ i from to. same_line i (omega arith) })
+          | inl lt ↦ inr (record {
+            begin = 0;
+            before = omega arith;
+            semicolon = begins;
+            same_line = λ i from to.
+                same_line i (omega arith);
+          })
           | inr past ↦
               let place : k ≡ length line = omega arith in
               inl (ap is_blank (ap (slice_index all) place ∙ line_end))

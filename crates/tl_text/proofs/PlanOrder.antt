@@ -14,9 +14,12 @@ use Rattle.tl_text.specs.Plans.{plan_breaks}
 use Rattle.tl_text.specs.MeaningOfPlans.{plan_meant}
 
 -- the first break of a plan file is the least one
-pub least-fault : (names : List (List ℕ)) (operators : List Operator) (fs : FormTrees) (r : Result (List Action) FormFault) → Reads (λ (xs : List Action). xs) r (plan_breaks names operators fs) (plan_meant names operators fs) → AreAsRead fs → IfErr r (IsLeastFault (plan_breaks names operators fs))
+pub least-fault : (names : List (List ℕ)) (operators : List Operator) (fs : FormTrees) (r : Result (List Action) FormFault) →
+    Reads (λ (xs : List Action). xs) r (plan_breaks names operators fs) (plan_meant names operators fs) → AreAsRead fs →
+    IfErr r (IsLeastFault (plan_breaks names operators fs))
 least-fault names operators fs (Ok plan) h rise = tt
-least-fault names operators fs (Err (Breaks broken at)) h rise = first-least 0 (64 * 4194304) (plan_breaks names operators fs) (broken, at) (actions-order names operators 0 fs 0 4194304 rise) h
+least-fault names operators fs (Err (Breaks broken at)) h rise = first-least 0 (64 * 4194304) (plan_breaks names operators fs) (broken, at)
+    (actions-order names operators 0 fs 0 4194304 rise) h
 least-fault names operators fs (Err NoMemory) h rise = tt
 
 pub ruleset least_fault = (least-fault)

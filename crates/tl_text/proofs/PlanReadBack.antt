@@ -1,5 +1,6 @@
 -- The lines of a printed plan as a plan file.
-use Rattle.std.proofs.Common.{◌≡◌, ◌≢◌, ℕ, ◌+◌, ◌-◌, ◌<◌, ◌≤◌, List, [], ◌∷◌, ◌++◌, length, map, slice_index, Bool, true, ◌==◌, not, FitsSigned, w64, pos, inl, inr, refl, sym, ap, ◌∙◌, subst, append_assoc, length-append, arith}
+use Rattle.std.proofs.Common.{◌≡◌, ◌≢◌, ℕ, ◌+◌, ◌-◌, ◌<◌, ◌≤◌, List, [], ◌∷◌, ◌++◌, length, map, slice_index, Bool, true, ◌==◌, not}
+use Rattle.std.proofs.Common.{FitsSigned, w64, pos, inl, inr, refl, sym, ap, ◌∙◌, subst, append_assoc, length-append, arith}
 use Rattle.std.specs.List.{list_all}
 use Rattle.std.specs.Prelude.{codes}
 use Rattle.std.specs.Fmt.{decimal}
@@ -33,7 +34,8 @@ moved-value : (n : ℕ) (names : List (List ℕ)) (v : Value) (at : ℕ) → mov
 moved-value n names (Int z) at = refl
 moved-value n names (Sym k) at = refl
 
-moved-values : (n : ℕ) (names : List (List ℕ)) (vs : List Value) (at : ℕ) → moved_all n (values_forms names vs at) ≡ values_forms names vs (n + at)
+moved-values : (n : ℕ) (names : List (List ℕ)) (vs : List Value) (at : ℕ) → moved_all n (values_forms names vs at) ≡
+    values_forms names vs (n + at)
 moved-values n names [] at = refl
 moved-values n names (v ∷ vs) at =
     let long = length (value_text names v) in
@@ -43,7 +45,8 @@ moved-values n names (v ∷ vs) at =
     let others = moved-values n names vs (at + 1 + long) ∙ ap (values_forms names vs) next in
     λ i. more_forms (first i) (others i)
 
-moved-action : (n : ℕ) (names : List (List ℕ)) (operators : List Operator) (a : Action) (at : ℕ) → moved n (action_form names operators a at) ≡ action_form names operators a (n + at)
+moved-action : (n : ℕ) (names : List (List ℕ)) (operators : List Operator) (a : Action) (at : ℕ) →
+    moved n (action_form names operators a at) ≡ action_form names operators a (n + at)
 moved-action n names operators a at =
     let name = operator_text names operators a.op in
     let here : n + (at + 1) ≡ n + at + 1 = omega arith in
@@ -51,7 +54,8 @@ moved-action n names operators a at =
     let args = moved-values n names a.args (at + 1 + length name) ∙ ap (values_forms names a.args) next in
     λ i. list (more_forms (symbol name (here i)) (args i)) (n + at)
 
-moved-lines : (n : ℕ) (names : List (List ℕ)) (operators : List Operator) (plan : List Action) (at : ℕ) → moved_all n (lines_forms names operators plan at) ≡ lines_forms names operators plan (n + at)
+moved-lines : (n : ℕ) (names : List (List ℕ)) (operators : List Operator) (plan : List Action) (at : ℕ) →
+    moved_all n (lines_forms names operators plan at) ≡ lines_forms names operators plan (n + at)
 moved-lines n names operators [] at = refl
 moved-lines n names operators (a ∷ plan) at =
     let long = length (action_text names operators a) in
@@ -94,15 +98,19 @@ one-line : (m : ℕ) → m ≤ 100000 → IsOneLine (line_of m)
 one-line m few =
     let fits : FitsSigned w64 (pos m) = omega (arith, ints, few) in
     one-line-both (codes "; plan of ") (decimal m ++ codes " actions") (one-line-tested (codes "; plan of ") refl)
-    (one-line-both (decimal m) (codes " actions") (one-line-token (decimal m) (decimal-token (pos m) fits)) (one-line-tested (codes " actions") refl))
+    (one-line-both (decimal m) (codes " actions") (one-line-token (decimal m) (decimal-token (pos m) fits))
+    (one-line-tested (codes " actions") refl))
 
 line-gap : (m : ℕ) (bytes : List ℕ) → m ≤ 100000 → IsGap (after_line (line_of m) bytes) 0 (line_length (line_of m))
 line-gap m bytes few =
     let long = length-append (line_of m) (10 ∷ []) in
     gap_of_line (line_of m) bytes refl
-    (λ k lt is. one-line m few k lt (sym (get_or_append_left (line_of m ++ 10 ∷ []) bytes 0 k (omega arith) ∙ get_or_append_left (line_of m) (10 ∷ []) 0 k lt) ∙ is))
+    (λ k lt is. one-line m few k lt (sym (get_or_append_left (line_of m ++ 10 ∷ []) bytes 0 k (omega arith) ∙
+    get_or_append_left (line_of m) (10 ∷ []) 0 k lt) ∙ is))
 
-plan-spelled : (names : List (List ℕ)) (operators : List Operator) (plan : List Action) → Each (IsWritable names operators) plan → length plan ≤ 100000 → Spells (after_line (line_of (length plan)) (action_lines names operators plan)) (lines_forms names operators plan (line_length (line_of (length plan))))
+plan-spelled : (names : List (List ℕ)) (operators : List Operator) (plan : List Action) → Each (IsWritable names operators) plan →
+    length plan ≤ 100000 → Spells (after_line (line_of (length plan)) (action_lines names operators plan))
+    (lines_forms names operators plan (line_length (line_of (length plan))))
 plan-spelled names operators plan w few =
     let line = line_of (length plan) in
     let lines = action_lines names operators plan in
@@ -115,9 +123,12 @@ plan-spelled names operators plan w few =
     let A : FormTrees → Type 0 = λ fs. AreItems all 0 (n + 0) (n + length lines) fs in
     let B : ℕ → Type 0 = λ from. AreItems all 0 from (n + length lines) (lines_forms names operators plan n) in
     let C : ℕ → Type 0 = λ to. AreItems all 0 n to (lines_forms names operators plan n) in
-    items-later all 0 0 n (length all) (lines_forms names operators plan n) (line-gap (length plan) lines few) (subst C end (subst B begin (subst A forms there)))
+    items-later all 0 0 n (length all) (lines_forms names operators plan n) (line-gap (length plan) lines few)
+    (subst C end (subst B begin (subst A forms there)))
 
-pub plan-read-back : (names : List (List ℕ)) (operators : List Operator) (plan : List Action) → AreDistinct names → Differ (map (λ o. o.name) operators) → Each (IsWritable names operators) plan → length plan ≤ 100000 → AreReadAsPlan names operators (plan_text names operators plan) plan
+pub plan-read-back : (names : List (List ℕ)) (operators : List Operator) (plan : List Action) → AreDistinct names →
+    Differ (map (λ o. o.name) operators) → Each (IsWritable names operators) plan → length plan ≤ 100000 →
+    AreReadAsPlan names operators (plan_text names operators plan) plan
 plan-read-back names operators plan distinct differ w few =
     let line = line_of (length plan) in
     let lines = action_lines names operators plan in

@@ -33,7 +33,8 @@ unfolding action_breaks
 a_surplus_integer = refl
 
 -- a file of one action without operator
-pub an_unknown_operator : first_break (plan_breaks [] [] (trees_of_list (list (trees_of_list (symbol (codes "jump") 1 ∷ [])) 0 ∷ []))) ≡ Some (NoOperator, 0)
+pub an_unknown_operator : first_break (plan_breaks [] [] (trees_of_list (list (trees_of_list (symbol (codes "jump") 1 ∷ [])) 0 ∷ []))) ≡
+    Some (NoOperator, 0)
 unfolding action_breaks
 an_unknown_operator = refl
 
@@ -41,11 +42,13 @@ pub a_refusal : refused_text 3 32 7 ≡ codes "; refused file 3 rule 32 at 7\n"
 unfolding digits
 a_refusal = refl
 
-pub a_sum_past_range : operation_line (record { at = 60; op = Plus; left = pos 9223372036854775807; right = pos 1 }) ≡ codes "; range at 60: 9223372036854775807 + 1\n"
+pub a_sum_past_range : operation_line (record { at = 60; op = Plus; left = pos 9223372036854775807; right = pos 1 }) ≡
+    codes "; range at 60: 9223372036854775807 + 1\n"
 unfolding digits
 a_sum_past_range = refl
 
-pub a_difference_past_range : operation_line (record { at = 0; op = Minus; left = negsuc 9223372036854775807; right = pos 1 }) ≡ codes "; range at 0: -9223372036854775808 - 1\n"
+pub a_difference_past_range : operation_line (record { at = 0; op = Minus; left = negsuc 9223372036854775807; right = pos 1 }) ≡
+    codes "; range at 0: -9223372036854775808 - 1\n"
 unfolding digits
 a_difference_past_range = refl
 

@@ -17,7 +17,8 @@ op_text Times = codes "*"
 -- the line of the operation: its offset in the domain file, and its operands around its sign
 abbrev pub operation_line : RangeNote → List ℕ
 operation_line note =
-    codes "; range at " ++ (decimal note.at ++ (codes ": " ++ (signed_decimal note.left ++ (codes " " ++ (op_text note.op ++ (codes " " ++ (signed_decimal note.right ++ codes "\n")))))))
+    codes "; range at " ++ (decimal note.at ++ (codes ": " ++ (signed_decimal note.left ++
+    (codes " " ++ (op_text note.op ++ (codes " " ++ (signed_decimal note.right ++ codes "\n")))))))
 
 -- the line that says after how many actions
 abbrev pub after_line : ℕ → List ℕ

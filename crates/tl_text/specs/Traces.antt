@@ -15,7 +15,8 @@ use Rattle.tl_space.specs.Spaces.{task_of, kept_of}
 
 -- the line of the label of the residual of the pair of a number
 abbrev pub label_line : List (List ℕ) → Domain → List KeptPair → ℕ → List ℕ
-label_line names domain kept k = codes "; label " ++ (unwrap_or (option_map (λ x. label_text names domain x.node.formula) (slice_get kept k)) [] ++ codes "\n")
+label_line names domain kept k = codes "; label " ++ (unwrap_or (option_map (λ x. label_text names domain x.node.formula)
+    (slice_get kept k)) [] ++ codes "\n")
 
 -- a space, an action and the end of the line
 abbrev pub action_end : List (List ℕ) → Domain → Action → List ℕ
@@ -25,7 +26,8 @@ action_end names domain a = codes " " ++ (action_text names domain.operators a +
 abbrev pub event_text : List (List ℕ) → Domain → List KeptPair → Event → List ℕ
 event_text names domain kept event.RootKept = codes "; kept 0\n" ++ label_line names domain kept 0
 event_text names domain kept event.RootPruned = codes "; pruned\n"
-event_text names domain kept (event.Kept j a k) = codes "; kept " ++ (decimal k ++ (codes " " ++ (decimal j ++ (action_end names domain a ++ label_line names domain kept k))))
+event_text names domain kept (event.Kept j a k) = codes "; kept " ++ (decimal k ++
+    (codes " " ++ (decimal j ++ (action_end names domain a ++ label_line names domain kept k))))
 event_text names domain kept (event.Seen j a k) = codes "; seen " ++ (decimal k ++ (codes " " ++ (decimal j ++ action_end names domain a)))
 event_text names domain kept (event.Pruned j a) = codes "; pruned " ++ (decimal j ++ action_end names domain a)
 

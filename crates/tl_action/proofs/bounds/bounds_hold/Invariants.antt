@@ -8,4 +8,5 @@ use Rattle.tl_action.proofs.bounds.bounds_hold.Given as goal
 
 abbrev pub invariant-loop-bound : goal.invariant-loop-bound
 invariant-loop-bound l =
-    let test = bound_true (situation_of (plain_problem l.here.task.now.problem) l.here.world.now) (assignment_in l.env) in list_all test l.bounds ≡ list_all test (drop l.bound-index l.bounds)
+    let test = bound_true (situation_of (plain_problem l.here.task.now.problem) l.here.world.now) (assignment_in l.env) in
+    list_all test l.bounds ≡ list_all test (drop l.bound-index l.bounds)

@@ -12,4 +12,5 @@ pub returns-then-sets-le-FEW : goal.returns-then-sets-le-FEW
 returns-then-sets-le-FEW c = c.each_agrees.ensures ∙ each-agrees c.args.sets.now
 
 pub returns : goal.returns
-returns c = c.gives_each.ensures ∙ (ap (λ (w : World). list_all (λ s. is_value (value_at w (s.fun, s.args)) s.value) c.args.sets.now) c.in_ok-given.ensures.same ∙ places-agree c.args.sets.now)
+returns c = c.gives_each.ensures ∙ (ap (λ (w : World). list_all (λ s. is_value (value_at w (s.fun, s.args)) s.value) c.args.sets.now)
+    c.in_ok-given.ensures.same ∙ places-agree c.args.sets.now)

@@ -23,12 +23,16 @@ decreases-collect_each l = 1 + effects_nodes (tree_of_effects l.each.now.effects
 
 abbrev pub invariant-collect_all-loop-effect : goal.invariant-collect_all-loop-effect
 invariant-collect_all-loop-effect l = record {
-  frame : EffectsLeave (signature_of l.here.task.now.problem.domain) (tree_of_effects l.effects) (assignment_in l.fn.env) (assignment_in l.env);
-  passed : EffectsPassed (signature_of l.here.task.now.problem.domain) (plain_problem l.here.task.now.problem) l.here.world.now (assignment_in l.fn.env) (tree_of_effects l.effects) (effects_of_list (map tree_of_effect (drop l.effect-index l.effect-items))) l.fn.changes l.changes;
+  frame : EffectsLeave (signature_of l.here.task.now.problem.domain) (tree_of_effects l.effects) (assignment_in l.fn.env)
+      (assignment_in l.env);
+  passed : EffectsPassed (signature_of l.here.task.now.problem.domain) (plain_problem l.here.task.now.problem) l.here.world.now
+      (assignment_in l.fn.env) (tree_of_effects l.effects) (effects_of_list (map tree_of_effect (drop l.effect-index l.effect-items)))
+      l.fn.changes l.changes;
 }
 
 abbrev pub decreases-collect_each-loop-vars : goal.decreases-collect_each-loop-vars
-decreases-collect_each-loop-vars l = length (left (situation_of (plain_problem l.here.task.now.problem) l.here.world.now) (assignment_in l.fn.env) l.vars l.each.bound.now l.tuples.tuple)
+decreases-collect_each-loop-vars l = length (left (situation_of (plain_problem l.here.task.now.problem) l.here.world.now)
+    (assignment_in l.fn.env) l.vars l.each.bound.now l.tuples.tuple)
 
 abbrev pub invariant-collect_each-loop-vars : goal.invariant-collect_each-loop-vars
 invariant-collect_each-loop-vars l =
@@ -38,5 +42,6 @@ invariant-collect_each-loop-vars l =
     record {
       reads : ReadsBound s l.vars e l.each.bound.now l.tuples;
       frame : EachLeaves (signature_of l.here.task.now.problem.domain) l.vars (tree_of_effects l.each.effects.now) e (assignment_in l.env);
-      passed : TuplesPassed p l.here.world.now e l.vars (tree_of_effects l.each.effects.now) (all s e l.vars l.each.bound.now) (left s e l.vars l.each.bound.now l.tuples.tuple) l.fn.changes l.changes;
+      passed : TuplesPassed p l.here.world.now e l.vars (tree_of_effects l.each.effects.now) (all s e l.vars l.each.bound.now)
+          (left s e l.vars l.each.bound.now l.tuples.tuple) l.fn.changes l.changes;
     }

@@ -13,6 +13,9 @@ loop-param-preserved c =
     let i = c.loop-param.param-index in
     let test = is_new (take c.args.j (arranged c.args.bounds.now).bounds) c.args.b.now in
     elim c.if-is_new.branch [
-      | then-is_new+in_ok-push w ↦ w.vars-is ∙ filter-keeps test ss i (get_or ss i none) c.loop-param-test.true (get-itself ss i none c.loop-param-test.true) c.loop-param.vars c.loop-param.invariant w.push.new.self (sym c.is_new.ensures ∙ w.if-is_new.true) w.in_ok-push.ensures
-      | else-is_new w ↦ w.vars-is ∙ filter-drops test ss i (get_or ss i none) c.loop-param-test.true (get-itself ss i none c.loop-param-test.true) c.loop-param.vars c.loop-param.invariant (sym c.is_new.ensures ∙ w.if-is_new.false)
+      | then-is_new+in_ok-push w ↦ w.vars-is ∙ filter-keeps test ss i (get_or ss i none) c.loop-param-test.true
+          (get-itself ss i none c.loop-param-test.true) c.loop-param.vars c.loop-param.invariant w.push.new.self
+          (sym c.is_new.ensures ∙ w.if-is_new.true) w.in_ok-push.ensures
+      | else-is_new w ↦ w.vars-is ∙ filter-drops test ss i (get_or ss i none) c.loop-param-test.true
+          (get-itself ss i none c.loop-param-test.true) c.loop-param.vars c.loop-param.invariant (sym c.is_new.ensures ∙ w.if-is_new.false)
     ]

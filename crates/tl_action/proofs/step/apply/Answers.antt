@@ -15,4 +15,5 @@ returns-in_ok-next-in-Ok-Some-clause-named g c =
     (subst (LeaveNamedHere c.args.here.now c.args.a.now) c.in-Ok-Some.field-0-is c.in-Ok-Some.ensures.named)
 
 pub returns-in-Ok-None-clause-world : goal.returns-in-Ok-None-clause-world
-returns-in-Ok-None-clause-world g c = sym (subst (AreChangesHere c.args.here.now c.args.a.now) c.in-Ok-None.field-0-is c.in-Ok-None.ensures.changes)
+returns-in-Ok-None-clause-world g c = sym (subst (AreChangesHere c.args.here.now c.args.a.now) c.in-Ok-None.field-0-is
+    c.in-Ok-None.ensures.changes)

@@ -11,4 +11,5 @@ abbrev pub decreases-are_sure : goal.decreases-are_sure
 decreases-are_sure l = effects_nodes (tree_of_effects l.effects.now)
 
 abbrev pub invariant-are_sure-loop-effect : goal.invariant-are_sure-loop-effect
-invariant-are_sure-loop-effect l = SurePassed (tree_of_effects l.effects) (effects_of_list (map tree_of_effect (drop l.effect-index l.effect-items)))
+invariant-are_sure-loop-effect l = SurePassed (tree_of_effects l.effects)
+    (effects_of_list (map tree_of_effect (drop l.effect-index l.effect-items)))

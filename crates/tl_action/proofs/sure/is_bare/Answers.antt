@@ -14,4 +14,5 @@ pub returns-in-Place : goal.returns-in-Place
 returns-in-Place c = ap is_bare (sym (ap tree_of_term c.in-Place.is ∙ tree-Place c.in-Place.field-0 c.in-Place.field-1))
 
 pub returns-in-Arith : goal.returns-in-Arith
-returns-in-Arith c = ap is_bare (sym (ap tree_of_term c.in-Arith.is ∙ tree-Arith c.in-Arith.field-0 c.in-Arith.field-1 c.in-Arith.field-2 c.in-Arith.field-3))
+returns-in-Arith c = ap is_bare (sym (ap tree_of_term c.in-Arith.is ∙ tree-Arith c.in-Arith.field-0 c.in-Arith.field-1 c.in-Arith.field-2
+    c.in-Arith.field-3))

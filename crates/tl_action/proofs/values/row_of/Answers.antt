@@ -19,15 +19,18 @@ pub returns-in-None : goal.returns-in-None
 returns-in-None c =
     let ss = c.args.vars.now in
     let i = c.loop-var.var-index in
-    row-undefined c.args.here.now.world.now (assignment_in c.args.env.now) ss ss i (item ss i) c.loop-var.row c.loop-var-test.true (item-is ss i c.loop-var-test.true) c.loop-var.invariant
+    row-undefined c.args.here.now.world.now (assignment_in c.args.env.now) ss ss i (item ss i) c.loop-var.row c.loop-var-test.true
+    (item-is ss i c.loop-var-test.true) c.loop-var.invariant
     (sym c.in-None.is ∙ c.value.ensures)
 
 pub loop-var-preserved : goal.loop-var-preserved
 loop-var-preserved c =
     let ss = c.args.vars.now in
     let i = c.loop-var.var-index in
-    row-on c.args.here.now.world.now (assignment_in c.args.env.now) ss ss i (item ss i) c.loop-var.row c.loop-var-test.true (item-is ss i c.loop-var-test.true) c.loop-var.invariant c.push.new.self c.in-Some.value
+    row-on c.args.here.now.world.now (assignment_in c.args.env.now) ss ss i (item ss i) c.loop-var.row c.loop-var-test.true
+    (item-is ss i c.loop-var-test.true) c.loop-var.invariant c.push.new.self c.in-Some.value
     (sym c.in-Some.is ∙ c.value.ensures) c.in_ok-push-in-Some.ensures
 
 pub returns : goal.returns
-returns c = row-ended c.args.here.now.world.now (assignment_in c.args.env.now) c.args.vars.now c.args.vars.now c.loop-var.var-index c.loop-var.row c.loop-var-test.false c.loop-var.invariant
+returns c = row-ended c.args.here.now.world.now (assignment_in c.args.env.now) c.args.vars.now c.args.vars.now c.loop-var.var-index
+    c.loop-var.row c.loop-var-test.false c.loop-var.invariant

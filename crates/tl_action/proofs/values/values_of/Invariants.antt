@@ -8,5 +8,6 @@ use Rattle.tl_action.proofs.values.values_of.Given as goal
 abbrev pub invariant-loop-one : goal.invariant-loop-one
 invariant-loop-one l = record {
   frame : l.env ≡ l.fn.env;
-  passed : ValuesPassed (signature_of l.here.task.now.problem.domain) l.here.world.now (assignment_in l.fn.env) (tree_of_terms l.terms) (terms_of_list (map tree_of_term (drop l.one-index l.one-items))) l.values;
+  passed : ValuesPassed (signature_of l.here.task.now.problem.domain) l.here.world.now (assignment_in l.fn.env) (tree_of_terms l.terms)
+      (terms_of_list (map tree_of_term (drop l.one-index l.one-items))) l.values;
 }

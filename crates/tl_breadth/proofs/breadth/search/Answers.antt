@@ -4,10 +4,12 @@ use Rattle.tl_breadth.proofs.Calm.{reported-history, calm-fault}
 use Rattle.tl_breadth.proofs.breadth.search.Goals as goal
 
 pub returns-in-Ok-clause-pruned : goal.returns-in-Ok-clause-pruned
-returns-in-Ok-clause-pruned g c = history-prunes-rightly _ c.args.watch _ _ (reported-history _ c.args.within _ c.args.steps.now _ _ c.outcome.new.steps c.in-Ok.outcome c.in-Ok.ensures.reported)
+returns-in-Ok-clause-pruned g c = history-prunes-rightly _ c.args.watch _ _
+    (reported-history _ c.args.within _ c.args.steps.now _ _ c.outcome.new.steps c.in-Ok.outcome c.in-Ok.ensures.reported)
 
 pub returns-in-Ok-clause-first : goal.returns-in-Ok-clause-first
-returns-in-Ok-clause-first g c = history-begins _ c.args.watch _ _ (reported-history _ c.args.within _ c.args.steps.now _ _ c.outcome.new.steps c.in-Ok.outcome c.in-Ok.ensures.reported)
+returns-in-Ok-clause-first g c = history-begins _ c.args.watch _ _ (reported-history _ c.args.within _ c.args.steps.now _ _
+    c.outcome.new.steps c.in-Ok.outcome c.in-Ok.ensures.reported)
 
 pub returns-in-Err-clause-calm : goal.returns-in-Err-clause-calm
 returns-in-Err-clause-calm g c calm few = calm-fault _ c.args.within _ calm c.in-Err.ensures.fault

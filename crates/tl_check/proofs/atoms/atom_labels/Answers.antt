@@ -11,5 +11,8 @@ use Rattle.tl_check.proofs.atoms.atom_labels.Goals as goal
 pub returns-in-Some : goal.returns-in-Some
 returns-in-Some c =
     let e = assignment_in c.args.env.now in
-    let values = subst (λ (o : Option (List Value)). IfSome o (λ vs. (w : World) → term_values w e (tree_of_terms c.args.terms.now) ≡ Some vs)) c.in-Some.is c.in_ok-row.ensures in
-    if-ok _ _ (λ o. if-some _ _ (λ (labels : List Bool) h. h ∙ atom-marks (course_along c.args.along.now) e (states_along c.args.along.now) c.args.span c.args.pred (tree_of_terms c.args.terms.now) c.in-Some.row values) o) c.fact_labels.result c.fact_labels.ensures
+    let values = subst (λ (o : Option (List Value)). IfSome o (λ vs. (w : World) → term_values w e (tree_of_terms c.args.terms.now) ≡
+    Some vs)) c.in-Some.is c.in_ok-row.ensures in
+    if-ok _ _ (λ o. if-some _ _ (λ (labels : List Bool) h. h ∙ atom-marks (course_along c.args.along.now) e
+    (states_along c.args.along.now) c.args.span c.args.pred (tree_of_terms c.args.terms.now) c.in-Some.row values) o)
+    c.fact_labels.result c.fact_labels.ensures

@@ -12,4 +12,5 @@ returns-in-Some c =
     let e = assignment_in c.args.env.now in
     let ws = states_along c.args.along.now in
     let row = sym c.in-Some.is ∙ (c.in_ok-row.ensures ∙ ap (λ (xs : List Arg). arg_values e xs) c.as_slice.ensures) in
-    if-ok _ _ (λ o. if-some _ _ (λ (labels : List Bool) h. h ∙ fact_bound-marks p e ws c.args.span c.args.pred c.args.args.now c.in-Some.row row) o) c.fact_labels.result c.fact_labels.ensures
+    if-ok _ _ (λ o. if-some _ _ (λ (labels : List Bool) h. h ∙ fact_bound-marks p e ws c.args.span c.args.pred c.args.args.now c.in-Some.row
+    row) o) c.fact_labels.result c.fact_labels.ensures

@@ -7,4 +7,6 @@ use Rattle.tl_check.proofs.atoms.goal_bound_labels.Goals as goal
 
 pub returns-clause-labels : goal.returns-clause-labels
 returns-clause-labels c =
-    c.in_ok-labels.ensures.same ∙ goal-marks (plain_problem c.args.along.now.task.now.problem) (assignment_in c.args.env.now) c.args.bound.now (states_along c.args.along.now) c.args.span c.args.along.now.task.now.first c.bound_holds-truth.result c.requires.goal c.requires.span c.bound_holds-truth.ensures
+    c.in_ok-labels.ensures.same ∙ goal-marks (plain_problem c.args.along.now.task.now.problem)
+    (assignment_in c.args.env.now) c.args.bound.now (states_along c.args.along.now) c.args.span c.args.along.now.task.now.first
+    c.bound_holds-truth.result c.requires.goal c.requires.span c.bound_holds-truth.ensures

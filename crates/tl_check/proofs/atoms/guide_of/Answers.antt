@@ -11,13 +11,17 @@ returns-in-Some c =
     let p = plain_problem c.args.along.now.task.now.problem in
     let h = c.in-Some.history.now in
     subst (λ (b : Bound). Guides p (states_along c.args.along.now) b h.ever) (sym c.in-Fact.is)
-    (fact-guides p (states_along c.args.along.now) c.in-Fact.pred c.in-Fact.field-1 h (history-known c.args.along.now h c.requires c.in-Some.ensures.1) c.in-Some.ensures.0)
+    (fact-guides p (states_along c.args.along.now) c.in-Fact.pred c.in-Fact.field-1 h
+    (history-known c.args.along.now h c.requires c.in-Some.ensures.1) c.in-Some.ensures.0)
 
 pub returns-in-GoalFact : goal.returns-in-GoalFact
-returns-in-GoalFact c = goal-guides (plain_problem c.args.along.now.task.now.problem) (states_along c.args.along.now) c.args.bound.now c.args.along.now.task.now.first (subst IsOverGoal (sym c.in-GoalFact.is) tt)
+returns-in-GoalFact c = goal-guides (plain_problem c.args.along.now.task.now.problem)
+    (states_along c.args.along.now) c.args.bound.now c.args.along.now.task.now.first (subst IsOverGoal (sym c.in-GoalFact.is) tt)
 
 pub returns-in-GoalPlace : goal.returns-in-GoalPlace
-returns-in-GoalPlace c = goal-guides (plain_problem c.args.along.now.task.now.problem) (states_along c.args.along.now) c.args.bound.now c.args.along.now.task.now.first (subst IsOverGoal (sym c.in-GoalPlace.is) tt)
+returns-in-GoalPlace c = goal-guides (plain_problem c.args.along.now.task.now.problem)
+    (states_along c.args.along.now) c.args.bound.now c.args.along.now.task.now.first (subst IsOverGoal (sym c.in-GoalPlace.is) tt)
 
 pub returns-in-GoalNot : goal.returns-in-GoalNot
-returns-in-GoalNot c = goal-guides (plain_problem c.args.along.now.task.now.problem) (states_along c.args.along.now) c.args.bound.now c.args.along.now.task.now.first (subst IsOverGoal (sym c.in-GoalNot.is) tt)
+returns-in-GoalNot c = goal-guides (plain_problem c.args.along.now.task.now.problem)
+    (states_along c.args.along.now) c.args.bound.now c.args.along.now.task.now.first (subst IsOverGoal (sym c.in-GoalNot.is) tt)

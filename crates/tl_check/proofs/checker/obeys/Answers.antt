@@ -26,14 +26,20 @@ at-requires c =
     let a = c.args.along.now in
     let some = some-along a c.requires in
     let f = tree_of_formula a.task.now.problem.domain.control in
-    omega (arith, ap length c.in_ok-labels.ensures.labels, marks_in-length (true_ahead (course_along a) (assignment_in c.in_ok-env.env) f) (states_along a) first (record { order = omega arith; within = omega (arith, some) }))
+    omega (
+      arith,
+      ap length c.in_ok-labels.ensures.labels,
+      marks_in-length (true_ahead (course_along a) (assignment_in c.in_ok-env.env) f)
+          (states_along a) first (record { order = omega arith; within = omega (arith, some) }),
+    )
 
 pub returns : goal.returns
 returns c =
     let a = c.args.along.now in
     let e = assignment_in c.in_ok-env.env in
     let f = tree_of_formula a.task.now.problem.domain.control in
-    obeys-told (course_along a) (states_along a) (some-along a c.requires) e f (nothing-given e c.in_ok-env.ensures.empty) (control-is a.task.now.problem) c.in_ok-labels.labels c.at.result c.in_ok-labels.ensures.labels c.at.ensures
+    obeys-told (course_along a) (states_along a) (some-along a c.requires) e f (nothing-given e c.in_ok-env.ensures.empty)
+    (control-is a.task.now.problem) c.in_ok-labels.labels c.at.result c.in_ok-labels.ensures.labels c.at.ensures
 
 pub returns-in_err-labels : goal.returns-in_err-labels
 returns-in_err-labels c =
@@ -42,5 +48,6 @@ returns-in_err-labels c =
     let f = tree_of_formula a.task.now.problem.domain.control in
     let p = course_along a in
     let ws = states_along a in
-    passed-on a (AreLabels p ws first e f) (Obeys p ws) (λ y h. obeys-noted p ws (some-along a c.requires) e f (nothing-given e c.in_ok-env.ensures.empty) (control-is a.task.now.problem) y h)
+    passed-on a (AreLabels p ws first e f) (Obeys p ws) (λ y h. obeys-noted p ws (some-along a c.requires) e f
+    (nothing-given e c.in_ok-env.ensures.empty) (control-is a.task.now.problem) y h)
     c.from_residual-in_err-labels.result c.in_err-labels.field-0.0 c.from_residual-in_err-labels.ensures.1 c.in_err-labels.ensures.labels

@@ -12,7 +12,11 @@ loop-cut-preserved c =
     let cs = c.args.cuts.now in
     let i = c.loop-cut.cut-index in
     let x = c.cut-item.result in
-    step-on (spread c.loop-cut.runs.items) (replicate x.count c.join-truth.result) (spread c.add.new.runs.items) (joined_labels j (lefts (drop i cs)) (rights (drop i cs))) (joined_labels j (lefts (drop (i + 1) cs)) (rights (drop (i + 1) cs))) (joined_labels j (lefts cs) (rights cs)) c.loop-cut.invariant
+    step-on (spread c.loop-cut.runs.items) (replicate x.count c.join-truth.result) (spread c.add.new.runs.items)
+    (joined_labels j (lefts (drop i cs)) (rights (drop i cs))) (joined_labels j (lefts (drop (i + 1) cs)) (rights (drop (i + 1) cs)))
+    (joined_labels j (lefts cs) (rights cs)) c.loop-cut.invariant
     (ap₂ (joined_labels j) (lefts-at cs i x c.loop-cut-test.true c.cut-item.is) (rights-at cs i x c.loop-cut-test.true c.cut-item.is)
-    ∙ (joined-run j x.count x.left x.right (lefts (drop (i + 1) cs)) (rights (drop (i + 1) cs)) ∙ ap (λ (b : Bool). replicate x.count b ++ joined_labels j (lefts (drop (i + 1) cs)) (rights (drop (i + 1) cs))) (sym c.join-truth.ensures)))
+    ∙ (joined-run j x.count x.left x.right (lefts (drop (i + 1) cs)) (rights (drop (i + 1) cs)) ∙
+    ap (λ (b : Bool). replicate x.count b ++ joined_labels j (lefts (drop (i + 1) cs)) (rights (drop (i + 1) cs)))
+    (sym c.join-truth.ensures)))
     c.in_ok-add.ensures.added

@@ -5,4 +5,5 @@ use Rattle.tl_check.specs.Runs.{spread}
 use Rattle.tl_check.proofs.cuts.join_cuts.Given as goal
 
 abbrev pub invariant-loop-cut : goal.invariant-loop-cut
-invariant-loop-cut l = spread l.runs.items ++ joined_labels l.junction (lefts (drop l.cut-index l.cuts)) (rights (drop l.cut-index l.cuts)) ≡ joined_labels l.junction (lefts l.cuts) (rights l.cuts)
+invariant-loop-cut l = spread l.runs.items ++ joined_labels l.junction (lefts (drop l.cut-index l.cuts))
+    (rights (drop l.cut-index l.cuts)) ≡ joined_labels l.junction (lefts l.cuts) (rights l.cuts)

@@ -40,7 +40,8 @@ decreases-join_instance l = 1 + 4 * size (tree_of_formula l.instance.now.binder.
 abbrev pub invariant-parts_labels-loop-part : goal.invariant-parts_labels-loop-part
 invariant-parts_labels-loop-part l = record {
   frame : l.env ≡ l.fn.env;
-  so_far : PartsSoFar (course_along l.along) (assignment_in l.fn.env) (states_along l.along) l.span l.junction l.part-items (drop l.part-index l.part-items) l.all;
+  so_far : PartsSoFar (course_along l.along) (assignment_in l.fn.env) (states_along l.along) l.span l.junction l.part-items
+      (drop l.part-index l.part-items) l.all;
 }
 
 abbrev pub invariant-quantified_labels-loop-tuple : goal.invariant-quantified_labels-loop-tuple
@@ -48,5 +49,6 @@ invariant-quantified_labels-loop-tuple l = record {
   counts : Each (IsTuple (length l.binder.vars.now)) l.tuple-items;
   scope : AgreeElsewhere l.binder.vars.now (assignment_in l.env) (assignment_in l.fn.env);
   slots : length l.env ≡ 32;
-  so_far : Joining (course_along l.along) (states_along l.along) (assignment_in l.fn.env) (quantifier_of l.binder) l.span l.all (drop l.tuple-index l.tuple-items);
+  so_far : Joining (course_along l.along) (states_along l.along) (assignment_in l.fn.env) (quantifier_of l.binder) l.span l.all
+      (drop l.tuple-index l.tuple-items);
 }

@@ -17,11 +17,14 @@ loop-i-preserved c =
     let here : Span = record { from = c.loop-i.i; to = c.same_up_to-end.result } in
     let size = ap length c.requires.worlds in
     let w = c.index-worlds-i.result in
-    let first = slice_get_read ws (length ws) c.loop-i.i w refl (omega (arith, c.loop-i-test.true, c.requires.span.within, size)) c.index-worlds-i.is in
+    let first = slice_get_read ws (length ws) c.loop-i.i w refl (omega (arith, c.loop-i-test.true, c.requires.span.within, size))
+    c.index-worlds-i.is in
     record {
       from = omega (arith, c.loop-i.invariant.from, c.same_up_to-end.ensures.from);
       to = c.same_up_to-end.ensures.to;
       told = told-on p ws e ss b c.args.span.from here w c.loop-i.tracks c.note_tuples.new.self c.same_up_to-end.ensures.from first
-          (λ a k v low high there. same-tuples p e ss b c.requires.differ c.requires.occur w v (c.same_up_to-end.ensures.same k w v low high first there) a)
-          c.in_ok-note_tuples.ensures.noted c.in_ok-note_tuples.ensures.covered (c.in_ok-note_tuples.ensures.counts c.loop-i.invariant.told.counts) c.loop-i.invariant.told;
+          (λ a k v low high there. same-tuples p e ss b c.requires.differ c.requires.occur w v
+          (c.same_up_to-end.ensures.same k w v low high first there) a)
+          c.in_ok-note_tuples.ensures.noted c.in_ok-note_tuples.ensures.covered
+          (c.in_ok-note_tuples.ensures.counts c.loop-i.invariant.told.counts) c.loop-i.invariant.told;
     }

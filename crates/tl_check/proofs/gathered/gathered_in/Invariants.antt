@@ -11,5 +11,6 @@ abbrev pub invariant-loop-i : goal.invariant-loop-i
 invariant-loop-i l = record {
   from : l.span.from ≤ l.i;
   to : l.i ≤ l.span.to;
-  told : Told (plain_problem l.along.task.now.problem) l.worlds (assignment_in l.env) l.binder.vars.now l.binder.bound.now l.span.from l.i l.tracks;
+  told : Told (plain_problem l.along.task.now.problem) l.worlds (assignment_in l.env) l.binder.vars.now l.binder.bound.now l.span.from l.i
+      l.tracks;
 }

@@ -6,4 +6,5 @@ use Rattle.tl_check.proofs.line.add_span.Goals as goal
 pub returns : goal.returns
 returns c =
     let end : Change = record { at = c.args.span.to; truth = false } in
-    span-added c.args.span c.args.line.now.items c.begin.new.line.items c.push.new.self.items end c.requires refl refl c.in_ok-begin.ensures c.in_ok-push.ensures.items
+    span-added c.args.span c.args.line.now.items c.begin.new.line.items c.push.new.self.items end c.requires refl refl c.in_ok-begin.ensures
+    c.in_ok-push.ensures.items

@@ -16,15 +16,22 @@ loop-change-preserved c =
     record {
       from = omega (arith, c.brought_between-next.ensures.from, c.loop-change.invariant.from);
       to = c.brought_between-next.ensures.to;
-      later = λ k h l. sym (change-passed c.loop-change.truth c.args.line.now i x k c.loop-change-test.true is (c.brought_between-next.ensures.after k h l)) ∙ c.loop-change.invariant.later k (omega (arith, h, c.brought_between-next.ensures.from)) l;
-      so_far = labels-up_to t c.loop-change.labels c.add.new.self (test_from t c.args.span.from (c.args.span.to - c.args.span.from)) c.loop-change.at next c.args.span.to c.loop-change.truth c.brought_between-next.ensures.from c.brought_between-next.ensures.to
-          (λ k p q. sym (c.loop-change.invariant.later k p (omega (arith, q, c.brought_between-next.ensures.to))) ∙ change-ahead c.loop-change.truth c.args.line.now i x k c.loop-change-test.true is (c.brought_between-next.ensures.before k p q))
+      later = λ k h l. sym (change-passed c.loop-change.truth c.args.line.now i x k c.loop-change-test.true is
+          (c.brought_between-next.ensures.after k h l)) ∙ c.loop-change.invariant.later k
+          (omega (arith, h, c.brought_between-next.ensures.from)) l;
+      so_far = labels-up_to t c.loop-change.labels c.add.new.self (test_from t c.args.span.from (c.args.span.to - c.args.span.from))
+          c.loop-change.at next c.args.span.to c.loop-change.truth c.brought_between-next.ensures.from c.brought_between-next.ensures.to
+          (λ k p q. sym (c.loop-change.invariant.later k p (omega (arith, q, c.brought_between-next.ensures.to))) ∙
+          change-ahead c.loop-change.truth c.args.line.now i x k c.loop-change-test.true is
+          (c.brought_between-next.ensures.before k p q))
           c.in_ok-add.ensures.added c.loop-change.invariant.so_far;
     }
 
 pub returns : goal.returns
 returns c =
     let t = truth_from false c.args.line.now in
-    labels-to_end t c.loop-change.labels c.add-2.new.self (test_from t c.args.span.from (c.args.span.to - c.args.span.from)) c.loop-change.at c.args.span.to c.loop-change.truth c.loop-change.invariant.to
-    (λ k p q. sym (c.loop-change.invariant.later k p q) ∙ changes-done c.loop-change.truth c.args.line.now c.loop-change.change-index k c.loop-change-test.false)
+    labels-to_end t c.loop-change.labels c.add-2.new.self (test_from t c.args.span.from (c.args.span.to - c.args.span.from))
+    c.loop-change.at c.args.span.to c.loop-change.truth c.loop-change.invariant.to
+    (λ k p q. sym (c.loop-change.invariant.later k p q) ∙ changes-done c.loop-change.truth c.args.line.now c.loop-change.change-index k
+    c.loop-change-test.false)
     c.in_ok-add-2.ensures.added c.loop-change.invariant.so_far

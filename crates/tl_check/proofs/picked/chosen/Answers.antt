@@ -13,7 +13,11 @@ loop-cut-preserved c =
     let cs = c.args.cuts.now in
     let i = c.loop-cut.cut-index in
     let x = c.cut-item.result in
-    step-on (spread c.loop-cut.made.items) (replicate x.count c.choice-truth.result) (spread c.add.new.runs.items) (chosen_labels e (lefts (drop i cs)) (rights (drop i cs))) (chosen_labels e (lefts (drop (i + 1) cs)) (rights (drop (i + 1) cs))) (chosen_labels e (lefts cs) (rights cs)) c.loop-cut.invariant
+    step-on (spread c.loop-cut.made.items) (replicate x.count c.choice-truth.result) (spread c.add.new.runs.items)
+    (chosen_labels e (lefts (drop i cs)) (rights (drop i cs))) (chosen_labels e (lefts (drop (i + 1) cs)) (rights (drop (i + 1) cs)))
+    (chosen_labels e (lefts cs) (rights cs)) c.loop-cut.invariant
     (ap₂ (chosen_labels e) (lefts-at cs i x c.loop-cut-test.true c.cut-item.is) (rights-at cs i x c.loop-cut-test.true c.cut-item.is)
-    ∙ (chosen-run e x.count x.left x.right (lefts (drop (i + 1) cs)) (rights (drop (i + 1) cs)) ∙ ap (λ (b : Bool). replicate x.count b ++ chosen_labels e (lefts (drop (i + 1) cs)) (rights (drop (i + 1) cs))) (sym c.choice-truth.ensures)))
+    ∙ (chosen-run e x.count x.left x.right (lefts (drop (i + 1) cs)) (rights (drop (i + 1) cs)) ∙
+    ap (λ (b : Bool). replicate x.count b ++ chosen_labels e (lefts (drop (i + 1) cs)) (rights (drop (i + 1) cs)))
+    (sym c.choice-truth.ensures)))
     c.in_ok-add.ensures.added

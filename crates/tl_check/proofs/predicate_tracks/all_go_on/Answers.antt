@@ -12,10 +12,12 @@ loop-i-preserved c =
     let next = c.go_on.new.self in
     let room : i < length now = omega arith in
     let size : length (slice_set now i next) ≡ length now = simp length-set in
-    so-far-on c.args.changes.now c.args.next.now c.args.at c.args.all.now i now c.index-all-i.result next room c.index-all-i.is c.loop-i.invariant
+    so-far-on c.args.changes.now c.args.next.now c.args.at c.args.all.now i now c.index-all-i.result next room c.index-all-i.is
+    c.loop-i.invariant
     (slice_set now i next) size (take_more_set now i next room)
     (λ (k : ℕ) (d : PredicateTracks) (h : i + 1 ≤ k). let ne : k ≢ i = omega arith in rw get_or-set_other refl)
-    (subst (λ (t : PredicateTracks). TracksOn c.args.changes.now c.args.next.now c.args.at t next) (sym c.index-all-i.is) c.in_ok-go_on.ensures)
+    (subst (λ (t : PredicateTracks). TracksOn c.args.changes.now c.args.next.now c.args.at t next)
+    (sym c.index-all-i.is) c.in_ok-go_on.ensures)
 
 pub returns : goal.returns
 returns c =

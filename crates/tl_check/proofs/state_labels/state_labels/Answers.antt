@@ -13,10 +13,14 @@ labels_in-requires-clause-span c = subst (λ (ws : List World). IsWithin c.args.
 
 pub returns-in_ok-labels-in-Some-clause-labels : goal.returns-in_ok-labels-in-Some-clause-labels
 returns-in_ok-labels-in-Some-clause-labels c =
-    subst (λ (ws : List World). AreLabels (course_along c.args.along.now) ws c.args.span (assignment_in c.args.env.now) (tree_of_formula c.args.f.now) (Ok c.in_ok-labels-in-Some.labels)) c.in-Some.ensures.all c.in_ok-labels-in-Some.ensures.labels
+    subst (λ (ws : List World). AreLabels (course_along c.args.along.now) ws c.args.span (assignment_in c.args.env.now)
+    (tree_of_formula c.args.f.now) (Ok c.in_ok-labels-in-Some.labels)) c.in-Some.ensures.all c.in_ok-labels-in-Some.ensures.labels
 
 pub returns-in_err-labels-in-Some-clause-labels : goal.returns-in_err-labels-in-Some-clause-labels
 returns-in_err-labels-in-Some-clause-labels c =
-    let says = λ (ws : List World). AreLabels (course_along c.args.along.now) ws c.args.span (assignment_in c.args.env.now) (tree_of_formula c.args.f.now) in
-    let noted = subst (λ (ws : List World). says ws (Err c.in_err-labels-in-Some.field-0.0)) c.in-Some.ensures.all c.in_err-labels-in-Some.ensures.labels in
-    fault-passed c.args.along.now (says (states_along c.args.along.now)) c.from_residual.result c.in_err-labels-in-Some.field-0.0 c.from_residual.ensures.1 noted
+    let says = λ (ws : List World). AreLabels (course_along c.args.along.now) ws c.args.span (assignment_in c.args.env.now)
+    (tree_of_formula c.args.f.now) in
+    let noted = subst (λ (ws : List World). says ws (Err c.in_err-labels-in-Some.field-0.0)) c.in-Some.ensures.all
+    c.in_err-labels-in-Some.ensures.labels in
+    fault-passed c.args.along.now (says (states_along c.args.along.now)) c.from_residual.result c.in_err-labels-in-Some.field-0.0
+    c.from_residual.ensures.1 noted

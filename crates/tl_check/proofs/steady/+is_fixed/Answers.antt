@@ -9,4 +9,6 @@ returns-in-Val t c = λ _. fixed-Val c.args.term.now c.in-Val.field-0 c.in-Val.i
 
 pub returns-then-is_fixed : goal.returns-then-is_fixed
 returns-then-is_fixed t c =
-    λ h. fixed-Arith c.args.term.now c.in-Arith.field-0 c.in-Arith.left c.in-Arith.right c.in-Arith.field-3 c.deref.result.now c.deref-then-is_fixed.result.now c.in-Arith.is c.deref.ensures c.deref-then-is_fixed.ensures (c.is_fixed.ensures c.if-is_fixed.true) (c.is_fixed-then-is_fixed.ensures h)
+    λ h. fixed-Arith c.args.term.now c.in-Arith.field-0 c.in-Arith.left c.in-Arith.right c.in-Arith.field-3 c.deref.result.now
+    c.deref-then-is_fixed.result.now c.in-Arith.is c.deref.ensures c.deref-then-is_fixed.ensures (c.is_fixed.ensures c.if-is_fixed.true)
+    (c.is_fixed-then-is_fixed.ensures h)

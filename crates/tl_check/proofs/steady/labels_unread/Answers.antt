@@ -14,4 +14,5 @@ returns-in_ok-labels-in-Ok-clause-labels c =
     let f = tree_of_formula c.args.f.now in
     let w = c.args.along.now.task.now.first in
     let told = state-told p e e f w [] c.in-Ok.truth c.requires.state refl c.in-Ok.ensures.value in
-    c.in_ok-labels-in-Ok.ensures.same ∙ same-marks (states_along c.args.along.now) c.args.span (true_ahead p e f) c.in-Ok.truth c.requires.span (λ v vs. c.is_steady.ensures c.if-not-is_steady.false p e v w vs [] ∙ sym told)
+    c.in_ok-labels-in-Ok.ensures.same ∙ same-marks (states_along c.args.along.now) c.args.span
+    (true_ahead p e f) c.in-Ok.truth c.requires.span (λ v vs. c.is_steady.ensures c.if-not-is_steady.false p e v w vs [] ∙ sym told)

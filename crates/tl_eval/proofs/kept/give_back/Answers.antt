@@ -6,5 +6,10 @@ use Rattle.tl_eval.proofs.kept.give_back.Goals as goal
 
 pub returns : goal.returns
 returns c =
-    let size : length c.give_values.new.frame ≡ 32 = omega (arith, length-take 32 c.args.frames.now, c.requires.room, c.give_values.auto.frame) in
+    let size : length c.give_values.new.frame ≡ 32 = omega (
+      arith,
+      length-take 32 c.args.frames.now,
+      c.requires.room,
+      c.give_values.auto.frame,
+    ) in
     ap assignment_in (front-is 32 c.give_values.new.frame _ size) ∙ c.give_values.ensures

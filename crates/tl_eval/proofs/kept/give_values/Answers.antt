@@ -12,8 +12,10 @@ loop-i-preserved c =
     let some = c.loop-i-test.true in
     let kept = c.loop-i.auto.frame in
     let below : c.loop-i.i - 1 < length c.args.vars.now = omega arith in
-    let slot : (get_or c.args.vars.now (c.loop-i.i - 1) none).slot < length c.args.frame.now = each-at (λ (s : Var). s.slot < length c.args.frame.now) c.args.vars.now (c.loop-i.i - 1) none c.requires.slots below in
+    let slot : (get_or c.args.vars.now (c.loop-i.i - 1) none).slot < length c.args.frame.now =
+    each-at (λ (s : Var). s.slot < length c.args.frame.now) c.args.vars.now (c.loop-i.i - 1) none c.requires.slots below in
     record {
       within = omega arith;
-      so_far = back-one c.args.vars.now c.args.values.now (c.loop-i.i - 1) c.loop-i.i none None c.loop-i.frame (assignment_in c.args.frame.now) (omega arith) below (omega arith) (omega arith) c.loop-i.invariant.so_far;
+      so_far = back-one c.args.vars.now c.args.values.now (c.loop-i.i - 1) c.loop-i.i none None c.loop-i.frame
+          (assignment_in c.args.frame.now) (omega arith) below (omega arith) (omega arith) c.loop-i.invariant.so_far;
     }

@@ -6,5 +6,10 @@ use Rattle.tl_eval.proofs.scope.put_in_scope.Goals as goal
 
 pub returns : goal.returns
 returns c =
-    let size : length c.put_values.new.frame ≡ 32 = omega (arith, length-take 32 c.args.frames.now, c.requires.room, c.put_values.auto.frame) in
+    let size : length c.put_values.new.frame ≡ 32 = omega (
+      arith,
+      length-take 32 c.args.frames.now,
+      c.requires.room,
+      c.put_values.auto.frame,
+    ) in
     ap assignment_in (front-is 32 c.put_values.new.frame _ size) ∙ c.put_values.ensures

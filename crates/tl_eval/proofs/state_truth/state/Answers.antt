@@ -17,11 +17,16 @@ use Rattle.tl_eval.proofs.state_truth.state.Goals as goal
 pub truth_of-requires-clause-fits : goal.truth_of-requires-clause-fits
 truth_of-requires-clause-fits c =
     whole-fits (signature_of c.args.task.now.problem.domain) c.whole-reading.result.number (tree_of_formula c.args.f.now)
-    (omega (arith, length-map c.args.task.now.problem.domain.definitions (λ (x : Definition). length x.params), c.whole-reading.ensures.number)) c.requires.fits
+    (omega (
+      arith,
+      length-map c.args.task.now.problem.domain.definitions (λ (x : Definition). length x.params),
+      c.whole-reading.ensures.number,
+    )) c.requires.fits
 
 pub truth_of-requires-clause-room : goal.truth_of-requires-clause-room
 truth_of-requires-clause-room c =
-    let size : length c.as_mut_slice.result.now ≡ 32 = ap (λ (xs : List (Option Value)). length xs) c.as_mut_slice.ensures.value ∙ c.env.invariant in
+    let size : length c.as_mut_slice.result.now ≡ 32 = ap (λ (xs : List (Option Value)). length xs) c.as_mut_slice.ensures.value ∙
+    c.env.invariant in
     omega arith
 
 pub truth_of-requires-clause-truths : goal.truth_of-requires-clause-truths
@@ -30,26 +35,48 @@ truth_of-requires-clause-truths c = search rules
 pub returns-clause-value : goal.returns-clause-value
 returns-clause-value c =
     let same : take 32 c.as_mut_slice.result.now ≡ c.args.env.now = ap (take 32) c.as_mut_slice.ensures.value ∙ c.env.view_is in
-    let given = subst (λ (x : List (Option Value)). IsTruth (plain_problem c.args.task.now.problem) c.args.w.now c.whole-reading.result.number c.whole-reading.result.level (assignment_in x) (tree_of_formula c.args.f.now) c.truth_of.result) same c.truth_of.ensures.truth in
-    let whole = whole-is (plain_problem c.args.task.now.problem) c.args.w.now c.whole-reading.result.number c.whole-reading.result.level (assignment_in c.args.env.now) (tree_of_formula c.args.f.now) c.truth_of.result (omega (arith, count-plain c.args.task.now.problem, c.whole-reading.ensures.number)) given in
-    the-value (state_true (situation_of (plain_problem c.args.task.now.problem) c.args.w.now) (assignment_in c.args.env.now) (tree_of_formula c.args.f.now)) (looked_in_state (looks_of (plain_problem c.args.task.now.problem) c.args.w.now) (situation_of (plain_problem c.args.task.now.problem) c.args.w.now) (assignment_in c.args.env.now) (tree_of_formula c.args.f.now)) c.truth_of.result whole
+    let given = subst (λ (x : List (Option Value)). IsTruth (plain_problem c.args.task.now.problem) c.args.w.now
+    c.whole-reading.result.number c.whole-reading.result.level (assignment_in x) (tree_of_formula c.args.f.now) c.truth_of.result) same
+    c.truth_of.ensures.truth in
+    let whole = whole-is (plain_problem c.args.task.now.problem) c.args.w.now c.whole-reading.result.number c.whole-reading.result.level
+    (assignment_in c.args.env.now) (tree_of_formula c.args.f.now) c.truth_of.result
+    (omega (arith, count-plain c.args.task.now.problem, c.whole-reading.ensures.number)) given in
+    the-value (state_true (situation_of (plain_problem c.args.task.now.problem) c.args.w.now) (assignment_in c.args.env.now)
+    (tree_of_formula c.args.f.now)) (looked_in_state (looks_of (plain_problem c.args.task.now.problem) c.args.w.now)
+    (situation_of (plain_problem c.args.task.now.problem) c.args.w.now) (assignment_in c.args.env.now) (tree_of_formula c.args.f.now))
+    c.truth_of.result whole
 
 pub returns-clause-in_range : goal.returns-clause-in_range
 returns-clause-in_range c =
     let same : take 32 c.as_mut_slice.result.now ≡ c.args.env.now = ap (take 32) c.as_mut_slice.ensures.value ∙ c.env.view_is in
-    let given = subst (λ (x : List (Option Value)). IsTruth (plain_problem c.args.task.now.problem) c.args.w.now c.whole-reading.result.number c.whole-reading.result.level (assignment_in x) (tree_of_formula c.args.f.now) c.truth_of.result) same c.truth_of.ensures.truth in
-    let whole = whole-is (plain_problem c.args.task.now.problem) c.args.w.now c.whole-reading.result.number c.whole-reading.result.level (assignment_in c.args.env.now) (tree_of_formula c.args.f.now) c.truth_of.result (omega (arith, count-plain c.args.task.now.problem, c.whole-reading.ensures.number)) given in
-    the-range (state_true (situation_of (plain_problem c.args.task.now.problem) c.args.w.now) (assignment_in c.args.env.now) (tree_of_formula c.args.f.now)) (looked_in_state (looks_of (plain_problem c.args.task.now.problem) c.args.w.now) (situation_of (plain_problem c.args.task.now.problem) c.args.w.now) (assignment_in c.args.env.now) (tree_of_formula c.args.f.now)) c.truth_of.result whole
+    let given = subst (λ (x : List (Option Value)). IsTruth (plain_problem c.args.task.now.problem) c.args.w.now
+    c.whole-reading.result.number c.whole-reading.result.level (assignment_in x) (tree_of_formula c.args.f.now) c.truth_of.result) same
+    c.truth_of.ensures.truth in
+    let whole = whole-is (plain_problem c.args.task.now.problem) c.args.w.now c.whole-reading.result.number c.whole-reading.result.level
+    (assignment_in c.args.env.now) (tree_of_formula c.args.f.now) c.truth_of.result
+    (omega (arith, count-plain c.args.task.now.problem, c.whole-reading.ensures.number)) given in
+    the-range (state_true (situation_of (plain_problem c.args.task.now.problem) c.args.w.now) (assignment_in c.args.env.now)
+    (tree_of_formula c.args.f.now)) (looked_in_state (looks_of (plain_problem c.args.task.now.problem) c.args.w.now)
+    (situation_of (plain_problem c.args.task.now.problem) c.args.w.now) (assignment_in c.args.env.now) (tree_of_formula c.args.f.now))
+    c.truth_of.result whole
 
 pub returns-clause-note : goal.returns-clause-note
 returns-clause-note c =
     let same : take 32 c.as_mut_slice.result.now ≡ c.args.env.now = ap (take 32) c.as_mut_slice.ensures.value ∙ c.env.view_is in
-    let given = subst (λ (x : List (Option Value)). IsTruth (plain_problem c.args.task.now.problem) c.args.w.now c.whole-reading.result.number c.whole-reading.result.level (assignment_in x) (tree_of_formula c.args.f.now) c.truth_of.result) same c.truth_of.ensures.truth in
-    let whole = whole-is (plain_problem c.args.task.now.problem) c.args.w.now c.whole-reading.result.number c.whole-reading.result.level (assignment_in c.args.env.now) (tree_of_formula c.args.f.now) c.truth_of.result (omega (arith, count-plain c.args.task.now.problem, c.whole-reading.ensures.number)) given in
-    the-note (state_true (situation_of (plain_problem c.args.task.now.problem) c.args.w.now) (assignment_in c.args.env.now) (tree_of_formula c.args.f.now)) (looked_in_state (looks_of (plain_problem c.args.task.now.problem) c.args.w.now) (situation_of (plain_problem c.args.task.now.problem) c.args.w.now) (assignment_in c.args.env.now) (tree_of_formula c.args.f.now)) c.truth_of.result whole
+    let given = subst (λ (x : List (Option Value)). IsTruth (plain_problem c.args.task.now.problem) c.args.w.now
+    c.whole-reading.result.number c.whole-reading.result.level (assignment_in x) (tree_of_formula c.args.f.now) c.truth_of.result) same
+    c.truth_of.ensures.truth in
+    let whole = whole-is (plain_problem c.args.task.now.problem) c.args.w.now c.whole-reading.result.number c.whole-reading.result.level
+    (assignment_in c.args.env.now) (tree_of_formula c.args.f.now) c.truth_of.result
+    (omega (arith, count-plain c.args.task.now.problem, c.whole-reading.ensures.number)) given in
+    the-note (state_true (situation_of (plain_problem c.args.task.now.problem) c.args.w.now) (assignment_in c.args.env.now)
+    (tree_of_formula c.args.f.now)) (looked_in_state (looks_of (plain_problem c.args.task.now.problem) c.args.w.now)
+    (situation_of (plain_problem c.args.task.now.problem) c.args.w.now) (assignment_in c.args.env.now) (tree_of_formula c.args.f.now))
+    c.truth_of.result whole
 
 pub returns-clause-frame : goal.returns-clause-frame
 returns-clause-frame c =
-    let kept : length c.truth_of.new.frames ≡ length c.env.inside.values.items = c.truth_of.auto.frames ∙ ap (λ (xs : List (Option Value)). length xs) c.as_mut_slice.ensures.value in
+    let kept : length c.truth_of.new.frames ≡ length c.env.inside.values.items = c.truth_of.auto.frames ∙
+    ap (λ (xs : List (Option Value)). length xs) c.as_mut_slice.ensures.value in
     same-frames 32 c.env.inside.values.len c.env.inside.values.items c.truth_of.new.frames kept c.env.inside.values.ok.0
     ∙ (c.truth_of.ensures.frame ∙ (ap (take 32) c.as_mut_slice.ensures.value ∙ c.env.view_is))

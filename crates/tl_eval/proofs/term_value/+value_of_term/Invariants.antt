@@ -18,4 +18,5 @@ abbrev pub decreases-put_values_of_terms : goal.decreases-put_values_of_terms
 decreases-put_values_of_terms l = terms_nodes (tree_of_terms l.ts.now)
 
 abbrev pub invariant-put_values_of_terms-loop-term : goal.invariant-put_values_of_terms-loop-term
-invariant-put_values_of_terms-loop-term l = Passed l.w (assignment_in l.frame) (tree_of_terms l.ts) (map tree_of_term (drop l.term-index l.term-items)) l.term-index l.row
+invariant-put_values_of_terms-loop-term l = Passed l.w (assignment_in l.frame) (tree_of_terms l.ts)
+    (map tree_of_term (drop l.term-index l.term-items)) l.term-index l.row

@@ -14,12 +14,15 @@ returns-in-Place c = ap (world_read (situation_of (plain_problem c.args.task.now
 
 pub returns-in-GoalFact : goal.returns-in-GoalFact
 unfolding situation_of
-returns-in-GoalFact c = let task = c.args.task.now in task.goal_is ∙ ap (world_read (situation_of (plain_problem task.problem) c.args.w.now)) (sym c.in-GoalFact.is)
+returns-in-GoalFact c = let task = c.args.task.now in task.goal_is ∙ ap
+    (world_read (situation_of (plain_problem task.problem) c.args.w.now)) (sym c.in-GoalFact.is)
 
 pub returns-in-GoalPlace : goal.returns-in-GoalPlace
 unfolding situation_of
-returns-in-GoalPlace c = let task = c.args.task.now in task.goal_is ∙ ap (world_read (situation_of (plain_problem task.problem) c.args.w.now)) (sym c.in-GoalPlace.is)
+returns-in-GoalPlace c = let task = c.args.task.now in task.goal_is ∙ ap
+    (world_read (situation_of (plain_problem task.problem) c.args.w.now)) (sym c.in-GoalPlace.is)
 
 pub returns-in-GoalNot : goal.returns-in-GoalNot
 unfolding situation_of
-returns-in-GoalNot c = let task = c.args.task.now in task.avoid_is ∙ ap (world_read (situation_of (plain_problem task.problem) c.args.w.now)) (sym c.in-GoalNot.is)
+returns-in-GoalNot c = let task = c.args.task.now in task.avoid_is ∙ ap
+    (world_read (situation_of (plain_problem task.problem) c.args.w.now)) (sym c.in-GoalNot.is)

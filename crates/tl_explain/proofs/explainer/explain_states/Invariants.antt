@@ -9,5 +9,6 @@ abbrev pub invariant-loop-k : goal.invariant-loop-k
 invariant-loop-k g l = record {
   fit : IsFit l.task.problem l.explanation;
   reached : Reached (plain_problem l.task.problem) l.plan l.k l.explanation.world (formula_in l.explanation);
-  so_far : l.explanation.text ++ lines_after l.task.problem l.k l.explanation.world (formula_in l.explanation) (drop l.k l.plan) ≡ explain_text l.task.problem l.plan;
+  so_far : l.explanation.text ++ lines_after l.task.problem l.k l.explanation.world (formula_in l.explanation) (drop l.k l.plan) ≡
+      explain_text l.task.problem l.plan;
 }

@@ -11,7 +11,8 @@ use Rattle.tl_terms.specs.World.{World}
 use Rattle.tl_lasso.proofs.check.verdict_of.Goals as goal
 
 -- the states that are kept, and the places of the two that are compared
-module _ (p : PlainProblem) (plan : List Action) (trail : Trail) (kept : IsKept p plan trail) (n : ℕ) (some : n < length plan) (worlds : List World) (all : worlds ≡ states_of p plan) where
+module _ (p : PlainProblem) (plan : List Action) (trail : Trail) (kept : IsKept p plan trail) (n : ℕ) (some : n < length plan)
+    (worlds : List World) (all : worlds ≡ states_of p plan) where
   abbrev ws : List World
   ws = states_of p plan
 
@@ -25,21 +26,33 @@ module _ (p : PlainProblem) (plan : List Action) (trail : Trail) (kept : IsKept 
   begins u q = q ∙ ap (λ (us : List World). get_or us n u) all
 
   ends : (v : World) → v ≡ get_or worlds (length plan) v → v ≡ get_or ws (length ws - 1) v
-  ends v q = q ∙ (ap (λ (us : List World). get_or us (length plan) v) all ∙ ap (λ (i : ℕ). get_or ws i v) (let e : length plan ≡ length ws - 1 = omega (arith, many) in e))
+  ends v q = q ∙ (ap (λ (us : List World). get_or us (length plan) v) all ∙
+      ap (λ (i : ℕ). get_or ws i v) (let e : length plan ≡ length ws - 1 = omega (arith, many) in e))
 
 pub bounds-worlds-begins : goal.bounds-worlds-begins
 bounds-worlds-begins c =
     let p = plain_problem c.args.task.now.problem in
     let plan = c.args.round.now.plan.now in
     let n = c.args.round.now.again in
-    omega (arith, c.requires.some, many p plan c.args.trail c.requires.kept n c.requires.some c.worlds-worlds.result.now (c.worlds-worlds.ensures (states_of p plan) c.requires.kept.1), ap length (c.worlds-worlds.ensures (states_of p plan) c.requires.kept.1))
+    omega (
+      arith,
+      c.requires.some,
+      many p plan c.args.trail c.requires.kept n c.requires.some c.worlds-worlds.result.now
+          (c.worlds-worlds.ensures (states_of p plan) c.requires.kept.1),
+      ap length (c.worlds-worlds.ensures (states_of p plan) c.requires.kept.1),
+    )
 
 pub bounds-worlds-ends : goal.bounds-worlds-ends
 bounds-worlds-ends c =
     let p = plain_problem c.args.task.now.problem in
     let plan = c.args.round.now.plan.now in
     let n = c.args.round.now.again in
-    omega (arith, many p plan c.args.trail c.requires.kept n c.requires.some c.worlds-worlds.result.now (c.worlds-worlds.ensures (states_of p plan) c.requires.kept.1), ap length (c.worlds-worlds.ensures (states_of p plan) c.requires.kept.1))
+    omega (
+      arith,
+      many p plan c.args.trail c.requires.kept n c.requires.some c.worlds-worlds.result.now
+          (c.worlds-worlds.ensures (states_of p plan) c.requires.kept.1),
+      ap length (c.worlds-worlds.ensures (states_of p plan) c.requires.kept.1),
+    )
 
 pub returns-then-not-are_same : goal.returns-then-not-are_same
 returns-then-not-are_same c =
@@ -50,9 +63,12 @@ returns-then-not-are_same c =
     let u = c.index-worlds-begins.result in
     let v = c.index-worlds-ends.result in
     let worlds = c.worlds-worlds.result.now in
-    judged-open p (states_of p plan) n (loops p plan t c.requires.kept n c.requires.some worlds (c.worlds-worlds.ensures (states_of p plan) c.requires.kept.1)) u v
-    (begins p plan t c.requires.kept n c.requires.some worlds (c.worlds-worlds.ensures (states_of p plan) c.requires.kept.1) u c.index-worlds-begins.is)
-    (ends p plan t c.requires.kept n c.requires.some worlds (c.worlds-worlds.ensures (states_of p plan) c.requires.kept.1) v c.index-worlds-ends.is)
+    judged-open p (states_of p plan) n (loops p plan t c.requires.kept n c.requires.some worlds
+    (c.worlds-worlds.ensures (states_of p plan) c.requires.kept.1)) u v
+    (begins p plan t c.requires.kept n c.requires.some worlds (c.worlds-worlds.ensures (states_of p plan) c.requires.kept.1) u
+    c.index-worlds-begins.is)
+    (ends p plan t c.requires.kept n c.requires.some worlds (c.worlds-worlds.ensures (states_of p plan) c.requires.kept.1) v
+    c.index-worlds-ends.is)
     (λ q. true≢false (sym (c.are_same.ensures.1 q) ∙ c.if-not-are_same.true))
 
 pub returns-then-not-met : goal.returns-then-not-met
@@ -64,9 +80,12 @@ returns-then-not-met c =
     let u = c.index-worlds-begins.result in
     let v = c.index-worlds-ends.result in
     let worlds = c.worlds-worlds.result.now in
-    judged-missing p (states_of p plan) n (loops p plan t c.requires.kept n c.requires.some worlds (c.worlds-worlds.ensures (states_of p plan) c.requires.kept.1)) u v
-    (begins p plan t c.requires.kept n c.requires.some worlds (c.worlds-worlds.ensures (states_of p plan) c.requires.kept.1) u c.index-worlds-begins.is)
-    (ends p plan t c.requires.kept n c.requires.some worlds (c.worlds-worlds.ensures (states_of p plan) c.requires.kept.1) v c.index-worlds-ends.is)
+    judged-missing p (states_of p plan) n (loops p plan t c.requires.kept n c.requires.some worlds
+    (c.worlds-worlds.ensures (states_of p plan) c.requires.kept.1)) u v
+    (begins p plan t c.requires.kept n c.requires.some worlds (c.worlds-worlds.ensures (states_of p plan) c.requires.kept.1) u
+    c.index-worlds-begins.is)
+    (ends p plan t c.requires.kept n c.requires.some worlds (c.worlds-worlds.ensures (states_of p plan) c.requires.kept.1) v
+    c.index-worlds-ends.is)
     (c.are_same.ensures.0 c.if-not-are_same.false) (sym c.met.ensures ∙ c.if-not-met.true)
 
 pub returns-in_err-obeys_round : goal.returns-in_err-obeys_round
@@ -78,10 +97,15 @@ returns-in_err-obeys_round c =
     let u = c.index-worlds-begins.result in
     let v = c.index-worlds-ends.result in
     let worlds = c.worlds-worlds.result.now in
-    judged-past p (states_of p plan) n (loops p plan t c.requires.kept n c.requires.some worlds (c.worlds-worlds.ensures (states_of p plan) c.requires.kept.1)) u v
-    (begins p plan t c.requires.kept n c.requires.some worlds (c.worlds-worlds.ensures (states_of p plan) c.requires.kept.1) u c.index-worlds-begins.is)
-    (ends p plan t c.requires.kept n c.requires.some worlds (c.worlds-worlds.ensures (states_of p plan) c.requires.kept.1) v c.index-worlds-ends.is)
-    (c.are_same.ensures.0 c.if-not-are_same.false) (sym c.met.ensures ∙ c.if-not-met.false) (front_states p plan) refl c.from_residual.result c.in_err-obeys_round.field-0.0 c.from_residual.ensures.1 c.in_err-obeys_round.ensures
+    judged-past p (states_of p plan) n (loops p plan t c.requires.kept n c.requires.some worlds
+    (c.worlds-worlds.ensures (states_of p plan) c.requires.kept.1)) u v
+    (begins p plan t c.requires.kept n c.requires.some worlds (c.worlds-worlds.ensures (states_of p plan) c.requires.kept.1) u
+    c.index-worlds-begins.is)
+    (ends p plan t c.requires.kept n c.requires.some worlds (c.worlds-worlds.ensures (states_of p plan) c.requires.kept.1) v
+    c.index-worlds-ends.is)
+    (c.are_same.ensures.0 c.if-not-are_same.false) (sym c.met.ensures ∙ c.if-not-met.false)
+    (front_states p plan) refl c.from_residual.result c.in_err-obeys_round.field-0.0 c.from_residual.ensures.1
+    c.in_err-obeys_round.ensures
 
 pub returns-then-branch : goal.returns-then-branch
 returns-then-branch c =
@@ -92,10 +116,14 @@ returns-then-branch c =
     let u = c.index-worlds-begins.result in
     let v = c.index-worlds-ends.result in
     let worlds = c.worlds-worlds.result.now in
-    judged-valid p (states_of p plan) n (loops p plan t c.requires.kept n c.requires.some worlds (c.worlds-worlds.ensures (states_of p plan) c.requires.kept.1)) u v
-    (begins p plan t c.requires.kept n c.requires.some worlds (c.worlds-worlds.ensures (states_of p plan) c.requires.kept.1) u c.index-worlds-begins.is)
-    (ends p plan t c.requires.kept n c.requires.some worlds (c.worlds-worlds.ensures (states_of p plan) c.requires.kept.1) v c.index-worlds-ends.is)
-    (c.are_same.ensures.0 c.if-not-are_same.false) (sym c.met.ensures ∙ c.if-not-met.false) (front_states p plan) refl c.in_ok-obeys_round.field-0 c.if-branch.true c.in_ok-obeys_round.ensures
+    judged-valid p (states_of p plan) n (loops p plan t c.requires.kept n c.requires.some worlds
+    (c.worlds-worlds.ensures (states_of p plan) c.requires.kept.1)) u v
+    (begins p plan t c.requires.kept n c.requires.some worlds (c.worlds-worlds.ensures (states_of p plan) c.requires.kept.1) u
+    c.index-worlds-begins.is)
+    (ends p plan t c.requires.kept n c.requires.some worlds (c.worlds-worlds.ensures (states_of p plan) c.requires.kept.1) v
+    c.index-worlds-ends.is)
+    (c.are_same.ensures.0 c.if-not-are_same.false) (sym c.met.ensures ∙ c.if-not-met.false)
+    (front_states p plan) refl c.in_ok-obeys_round.field-0 c.if-branch.true c.in_ok-obeys_round.ensures
 
 pub returns-else-branch : goal.returns-else-branch
 returns-else-branch c =
@@ -106,7 +134,11 @@ returns-else-branch c =
     let u = c.index-worlds-begins.result in
     let v = c.index-worlds-ends.result in
     let worlds = c.worlds-worlds.result.now in
-    judged-breaking p (states_of p plan) n (loops p plan t c.requires.kept n c.requires.some worlds (c.worlds-worlds.ensures (states_of p plan) c.requires.kept.1)) u v
-    (begins p plan t c.requires.kept n c.requires.some worlds (c.worlds-worlds.ensures (states_of p plan) c.requires.kept.1) u c.index-worlds-begins.is)
-    (ends p plan t c.requires.kept n c.requires.some worlds (c.worlds-worlds.ensures (states_of p plan) c.requires.kept.1) v c.index-worlds-ends.is)
-    (c.are_same.ensures.0 c.if-not-are_same.false) (sym c.met.ensures ∙ c.if-not-met.false) (front_states p plan) refl c.in_ok-obeys_round.field-0 c.if-branch.false c.in_ok-obeys_round.ensures
+    judged-breaking p (states_of p plan) n (loops p plan t c.requires.kept n c.requires.some worlds
+    (c.worlds-worlds.ensures (states_of p plan) c.requires.kept.1)) u v
+    (begins p plan t c.requires.kept n c.requires.some worlds (c.worlds-worlds.ensures (states_of p plan) c.requires.kept.1) u
+    c.index-worlds-begins.is)
+    (ends p plan t c.requires.kept n c.requires.some worlds (c.worlds-worlds.ensures (states_of p plan) c.requires.kept.1) v
+    c.index-worlds-ends.is)
+    (c.are_same.ensures.0 c.if-not-are_same.false) (sym c.met.ensures ∙ c.if-not-met.false)
+    (front_states p plan) refl c.in_ok-obeys_round.field-0 c.if-branch.false c.in_ok-obeys_round.ensures

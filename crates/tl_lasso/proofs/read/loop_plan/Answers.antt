@@ -12,8 +12,13 @@ pub returns-in_err-cycle-clause-read : goal.returns-in_err-cycle-clause-read
 returns-in_err-cycle-clause-read c =
     let names = c.args.problem.now.names in
     let operators = c.args.problem.now.domain.operators in
-    handed (λ r. Reads (λ (x : LoopPlan). x) r (loop_breaks names operators (trees_in c.args.forms.now)) (loop_meant names operators (trees_in c.args.forms.now))) c.from_residual-in_err-cycle.result c.in_err-cycle.field-0.0 c.from_residual-in_err-cycle.ensures.1
-    (subst (λ (bs : List Break). IsFirst bs c.in_err-cycle.field-0.0) (sym (loop-last names operators (trees_in c.args.forms.now) (trees_in c.in-Some.front.now) (tree_of c.in-Some.last.now) c.in-Some.ensures.0 c.in-Some.ensures.1 c.in_ok-stem.stem c.in_ok-stem.ensures.read.0 c.in_ok-stem.ensures.read.1 c.len.result c.len.ensures)) c.in_err-cycle.ensures.read)
+    handed (λ r. Reads (λ (x : LoopPlan). x) r (loop_breaks names operators (trees_in c.args.forms.now))
+    (loop_meant names operators (trees_in c.args.forms.now))) c.from_residual-in_err-cycle.result c.in_err-cycle.field-0.0
+    c.from_residual-in_err-cycle.ensures.1
+    (subst (λ (bs : List Break). IsFirst bs c.in_err-cycle.field-0.0) (sym
+    (loop-last names operators (trees_in c.args.forms.now) (trees_in c.in-Some.front.now)
+    (tree_of c.in-Some.last.now) c.in-Some.ensures.0 c.in-Some.ensures.1 c.in_ok-stem.stem c.in_ok-stem.ensures.read.0
+    c.in_ok-stem.ensures.read.1 c.len.result c.len.ensures)) c.in_err-cycle.ensures.read)
 
 pub returns-clause-read : goal.returns-clause-read
 returns-clause-read c =
@@ -22,6 +27,8 @@ returns-clause-read c =
     let fs = trees_in c.args.forms.now in
     let front = trees_in c.in-Some.front.now in
     let last = tree_of c.in-Some.last.now in (
-      loop-last names operators fs front last c.in-Some.ensures.0 c.in-Some.ensures.1 c.in_ok-stem.stem c.in_ok-stem.ensures.read.0 c.in_ok-stem.ensures.read.1 c.len.result c.len.ensures ∙ c.in_ok-cycle.ensures.read.0,
-      loop-both names operators fs front last c.in-Some.ensures.0 c.in-Some.ensures.1 c.in_ok-stem.stem c.in_ok-stem.ensures.read.0 c.in_ok-stem.ensures.read.1 c.in_ok-cycle.cycle c.in_ok-cycle.ensures.read.1,
+      loop-last names operators fs front last c.in-Some.ensures.0 c.in-Some.ensures.1 c.in_ok-stem.stem c.in_ok-stem.ensures.read.0
+          c.in_ok-stem.ensures.read.1 c.len.result c.len.ensures ∙ c.in_ok-cycle.ensures.read.0,
+      loop-both names operators fs front last c.in-Some.ensures.0 c.in-Some.ensures.1 c.in_ok-stem.stem c.in_ok-stem.ensures.read.0
+          c.in_ok-stem.ensures.read.1 c.in_ok-cycle.cycle c.in_ok-cycle.ensures.read.1,
     )

@@ -13,7 +13,8 @@ invariant-loop-at l = record {
   remembers : Remembered.AreTruths (plain_problem l.formulas.here.now.task.now.problem) l.formulas.here.now.world.now l.memory;
   frame : l.env ≡ l.fn.env;
   order : Each (IsBelow true (trees l.formulas.nodes.now) l.id) l.order.items;
-  known : AreTruths (plain_problem l.formulas.here.now.task.now.problem) l.formulas.here.now.world.now (trees l.formulas.nodes.now) (get nat_eq l.known.truths);
+  known : AreTruths (plain_problem l.formulas.here.now.task.now.problem) l.formulas.here.now.world.now (trees l.formulas.nodes.now)
+      (get nat_eq l.known.truths);
 }
 
 abbrev pub decreases-loop-at : goal.decreases-loop-at

@@ -24,12 +24,19 @@ pub returns-in-Ok-Some-clause-number : goal.returns-in-Ok-Some-clause-number
 returns-in-Ok-Some-clause-number c =
     let open_parts = rw c.in-Ok-Some.field-0-is at c.in-Ok-Some.ensures.parts in
     subst (λ (f : FormulaTree). IfOk c.parts_residual.result (λ i. slice_get (trees c.parts_residual.new.nodes) i ≡ Some f))
-    (ap (λ (ids : List ℕ). simplified_join c.args.joined.junction (map (residual (plain_problem c.args.here.now.task.now.problem) c.args.here.now.world.now (assignment_in c.args.env.now)) (trees_at (trees c.args.nodes.now) ids))) c.as_slice.ensures ∙ open_parts.same)
-    (subst (λ (v : List (Option Value)). IfOk c.parts_residual.result (λ i. slice_get (trees c.parts_residual.new.nodes) i ≡ Some (simplified_join c.args.joined.junction (map (residual (plain_problem c.args.here.now.task.now.problem) c.args.here.now.world.now (assignment_in v)) (trees_at (trees c.args.nodes.now) c.as_slice.result.now))))) c.open_parts.ensures.frame c.parts_residual.ensures.number)
+    (ap (λ (ids : List ℕ). simplified_join c.args.joined.junction (map
+    (residual (plain_problem c.args.here.now.task.now.problem) c.args.here.now.world.now (assignment_in c.args.env.now))
+    (trees_at (trees c.args.nodes.now) ids))) c.as_slice.ensures ∙ open_parts.same)
+    (subst (λ (v : List (Option Value)). IfOk c.parts_residual.result (λ i. slice_get (trees c.parts_residual.new.nodes) i ≡
+    Some (simplified_join c.args.joined.junction (map (residual (plain_problem c.args.here.now.task.now.problem)
+    c.args.here.now.world.now (assignment_in v)) (trees_at (trees c.args.nodes.now) c.as_slice.result.now)))))
+    c.open_parts.ensures.frame c.parts_residual.ensures.number)
 
 pub returns-in-Ok-Some-clause-cause : goal.returns-in-Ok-Some-clause-cause
 returns-in-Ok-Some-clause-cause c =
-    subst (λ (v : List (Option Value)). IfErr c.parts_residual.result (IsCausedBy (looked_for_residual (plain_problem c.args.here.now.task.now.problem) c.args.here.now.world.now (assignment_in v) (tree_at (trees c.args.nodes.now) c.args.joined.at)))) c.open_parts.ensures.frame c.parts_residual.ensures.cause
+    subst (λ (v : List (Option Value)). IfErr c.parts_residual.result (IsCausedBy
+    (looked_for_residual (plain_problem c.args.here.now.task.now.problem) c.args.here.now.world.now (assignment_in v)
+    (tree_at (trees c.args.nodes.now) c.args.joined.at)))) c.open_parts.ensures.frame c.parts_residual.ensures.cause
 
 pub returns-in-Ok-Some-clause-frame : goal.returns-in-Ok-Some-clause-frame
 returns-in-Ok-Some-clause-frame c = c.parts_residual.ensures.frame ∙ c.open_parts.ensures.frame

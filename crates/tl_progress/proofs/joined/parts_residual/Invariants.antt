@@ -16,6 +16,9 @@ invariant-loop-part l = record {
   kept : Keeps (trees l.fn.nodes) (trees l.nodes);
   found : AreResiduals (plain_problem l.here.task.now.problem) l.here.world.now (trees l.nodes) (found_in l.residuals l.rest.joined.world);
   elsewhere : StaysElsewhere l.rest.joined.world l.fn.residuals l.residuals;
-  passed : Gathered l.rest.joined.junction (trees l.nodes) l.answers (map (residual (plain_problem l.here.task.now.problem) l.here.world.now (assignment_in l.fn.env)) (trees_at (trees l.fn.nodes) (drop l.part-index l.rest.parts.now)))
-      (map (residual (plain_problem l.here.task.now.problem) l.here.world.now (assignment_in l.fn.env)) (trees_at (trees l.fn.nodes) l.rest.parts.now));
+  passed : Gathered l.rest.joined.junction (trees l.nodes) l.answers (map
+      (residual (plain_problem l.here.task.now.problem) l.here.world.now (assignment_in l.fn.env))
+      (trees_at (trees l.fn.nodes) (drop l.part-index l.rest.parts.now)))
+      (map (residual (plain_problem l.here.task.now.problem) l.here.world.now (assignment_in l.fn.env))
+      (trees_at (trees l.fn.nodes) l.rest.parts.now));
 }

@@ -13,5 +13,6 @@ invariant-loop-i l = record {
   remembers : AreTruths (plain_problem l.formulas.here.now.task.now.problem) l.formulas.here.now.world.now l.memory;
   frame : l.env ≡ l.fn.env;
   below : Each (IsBelow false (trees l.formulas.nodes.now) l.joined.at) l.parts;
-  passed : Passed (plain_problem l.formulas.here.now.task.now.problem) l.formulas.here.now.world.now (assignment_in l.fn.env) (trees l.formulas.nodes.now) l.joined.at l.joined.junction l.parts l.i;
+  passed : Passed (plain_problem l.formulas.here.now.task.now.problem) l.formulas.here.now.world.now (assignment_in l.fn.env)
+      (trees l.formulas.nodes.now) l.joined.at l.joined.junction l.parts l.i;
 }

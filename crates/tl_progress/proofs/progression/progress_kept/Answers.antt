@@ -28,10 +28,12 @@ use Rattle.tl_eval.specs.Frames.{assignment_in}
 use Rattle.tl_terms.specs.Looked.{looked_by_progressing}
 use Rattle.tl_progress.proofs.progression.progress_kept.Goals as goal
 
-by_number : (p : PlainProblem) (w : World) (f : FormulaTree) (us : List FormulaTree) (e : Assignment) (r : Result ℕ EvalFault) → e ≡ no_values → IfOk r (λ i. slice_get us i ≡ Some (residual p w e f)) → IfOk r (λ i. slice_get us i ≡ Some (residual p w no_values f))
+by_number : (p : PlainProblem) (w : World) (f : FormulaTree) (us : List FormulaTree) (e : Assignment) (r : Result ℕ EvalFault) → e ≡
+    no_values → IfOk r (λ i. slice_get us i ≡ Some (residual p w e f)) → IfOk r (λ i. slice_get us i ≡ Some (residual p w no_values f))
 by_number p w f us e r n h = subst (λ (d : Assignment). IfOk r (λ i. slice_get us i ≡ Some (residual p w d f))) n h
 
-by_cause : (p : PlainProblem) (w : World) (f : FormulaTree) (e : Assignment) (r : Result ℕ EvalFault) → e ≡ no_values → IfErr r (IsCausedBy (looked_for_residual p w e f)) → IfErr r (IsCausedBy (looked_by_progressing p w f))
+by_cause : (p : PlainProblem) (w : World) (f : FormulaTree) (e : Assignment) (r : Result ℕ EvalFault) → e ≡ no_values →
+    IfErr r (IsCausedBy (looked_for_residual p w e f)) → IfErr r (IsCausedBy (looked_by_progressing p w f))
 unfolding looked_by_progressing
 by_cause p w f e r n h = subst (λ (d : Assignment). IfErr r (IsCausedBy (looked_for_residual p w d f))) n h
 
@@ -48,75 +50,96 @@ is-progression task w old j new (Ok i) h =
     let f : FormulaTree = tree_at (trees old) j in
     record {
       holds =
-          λ n k e. subst (λ (t : FormulaTree). Satisfies p n k f ↔ Satisfies p n (suc k) t) (next-is p (state_at n k) w f (trees new) i e h) (progression-Satisfies p n k f);
+          λ n k e. subst (λ (t : FormulaTree). Satisfies p n k f ↔ Satisfies p n (suc k) t) (next-is p (state_at n k) w f (trees new) i e h)
+          (progression-Satisfies p n k f);
       fails =
-          λ s k e. subst (λ (t : FormulaTree). (SatisfiesAlong p s k f → ⊥) ↔ (SatisfiesAlong p s (suc k) t → ⊥)) (next-is p (s k) w f (trees new) i e h) (progression-along p s k f);
+          λ s k e. subst (λ (t : FormulaTree). (SatisfiesAlong p s k f → ⊥) ↔ (SatisfiesAlong p s (suc k) t → ⊥))
+          (next-is p (s k) w f (trees new) i e h) (progression-along p s k f);
     }
 is-progression task w old j new (Err x) h = tt
 
-stands-alone : (g : Signature) (p : PlainProblem) (w : World) (f : FormulaTree) (us : List FormulaTree) (r : Result ℕ EvalFault) → IsSentence g f → IfOk r (λ i. slice_get us i ≡ Some (residual p w no_values f)) → IfOk r (λ i. IsSentence g (tree_at us i))
+stands-alone : (g : Signature) (p : PlainProblem) (w : World) (f : FormulaTree) (us : List FormulaTree) (r : Result ℕ EvalFault) →
+    IsSentence g f → IfOk r (λ i. slice_get us i ≡ Some (residual p w no_values f)) → IfOk r (λ i. IsSentence g (tree_at us i))
 stands-alone g p w f us (Ok i) s h = subst (IsSentence g) (sym (at-is us i _ h)) (sentence-next g (situation_of p w) no_values f s)
 stands-alone g p w f us (Err x) s h = tt
 
-stays-named : (p : Problem) (w : World) (f : FormulaTree) (us : List FormulaTree) (r : Result ℕ EvalFault) → IfOk r (λ i. slice_get us i ≡ Some (residual (plain_problem p) w no_values f))
+stays-named : (p : Problem) (w : World) (f : FormulaTree) (us : List FormulaTree) (r : Result ℕ EvalFault) →
+    IfOk r (λ i. slice_get us i ≡ Some (residual (plain_problem p) w no_values f))
     → IfOk r (λ i. WorldIsNamed (length p.names) w → IsNamed (length p.names) f → IsNamed (length p.names) (tree_at us i))
-stays-named p w f us (Ok i) h = λ world formula. subst (IsNamed (length p.names)) (sym (at-is us i _ h)) (residual-named p w f world formula)
+stays-named p w f us (Ok i) h = λ world formula. subst (IsNamed (length p.names)) (sym (at-is us i _ h))
+    (residual-named p w f world formula)
 stays-named p w f us (Err x) h = tt
 
 pub returns-then-is_empty_frame-clause-number : goal.returns-then-is_empty_frame-clause-number
 returns-then-is_empty_frame-clause-number c =
-    by_number (plain_problem c.args.task.now.problem) c.args.w.now (tree_at (trees c.args.nodes.now) c.args.incoming.formula) (trees c.sentence_residual.new.nodes) (assignment_in c.args.env.now) c.sentence_residual.result
+    by_number (plain_problem c.args.task.now.problem) c.args.w.now (tree_at (trees c.args.nodes.now) c.args.incoming.formula)
+    (trees c.sentence_residual.new.nodes) (assignment_in c.args.env.now) c.sentence_residual.result
     (sym (ap assignment_in c.slots.ensures.values) ∙ c.is_empty_frame.ensures c.if-is_empty_frame.true) c.sentence_residual.ensures.number
 
 pub returns-then-is_empty_frame-clause-lemma : goal.returns-then-is_empty_frame-clause-lemma
 returns-then-is_empty_frame-clause-lemma c =
-    is-progression c.args.task.now c.args.w.now c.args.nodes.now c.args.incoming.formula c.sentence_residual.new.nodes c.sentence_residual.result
-    (by_number (plain_problem c.args.task.now.problem) c.args.w.now (tree_at (trees c.args.nodes.now) c.args.incoming.formula) (trees c.sentence_residual.new.nodes) (assignment_in c.args.env.now) c.sentence_residual.result
+    is-progression c.args.task.now c.args.w.now c.args.nodes.now c.args.incoming.formula c.sentence_residual.new.nodes
+    c.sentence_residual.result
+    (by_number (plain_problem c.args.task.now.problem) c.args.w.now (tree_at (trees c.args.nodes.now) c.args.incoming.formula)
+    (trees c.sentence_residual.new.nodes) (assignment_in c.args.env.now) c.sentence_residual.result
     (sym (ap assignment_in c.slots.ensures.values) ∙ c.is_empty_frame.ensures c.if-is_empty_frame.true) c.sentence_residual.ensures.number)
 
 pub returns-then-is_empty_frame-clause-sentence : goal.returns-then-is_empty_frame-clause-sentence
 returns-then-is_empty_frame-clause-sentence c =
-    stands-alone (signature_of c.args.task.now.problem.domain) (plain_problem c.args.task.now.problem) c.args.w.now (tree_at (trees c.args.nodes.now) c.args.incoming.formula)
+    stands-alone (signature_of c.args.task.now.problem.domain) (plain_problem c.args.task.now.problem) c.args.w.now
+    (tree_at (trees c.args.nodes.now) c.args.incoming.formula)
     (trees c.sentence_residual.new.nodes) c.sentence_residual.result c.requires.sentence
-    (by_number (plain_problem c.args.task.now.problem) c.args.w.now (tree_at (trees c.args.nodes.now) c.args.incoming.formula) (trees c.sentence_residual.new.nodes) (assignment_in c.args.env.now) c.sentence_residual.result
+    (by_number (plain_problem c.args.task.now.problem) c.args.w.now (tree_at (trees c.args.nodes.now) c.args.incoming.formula)
+    (trees c.sentence_residual.new.nodes) (assignment_in c.args.env.now) c.sentence_residual.result
     (sym (ap assignment_in c.slots.ensures.values) ∙ c.is_empty_frame.ensures c.if-is_empty_frame.true) c.sentence_residual.ensures.number)
 
 pub returns-then-is_empty_frame-clause-named : goal.returns-then-is_empty_frame-clause-named
 returns-then-is_empty_frame-clause-named c =
-    stays-named c.args.task.now.problem c.args.w.now (tree_at (trees c.args.nodes.now) c.args.incoming.formula) (trees c.sentence_residual.new.nodes) c.sentence_residual.result
-    (by_number (plain_problem c.args.task.now.problem) c.args.w.now (tree_at (trees c.args.nodes.now) c.args.incoming.formula) (trees c.sentence_residual.new.nodes) (assignment_in c.args.env.now) c.sentence_residual.result
+    stays-named c.args.task.now.problem c.args.w.now (tree_at (trees c.args.nodes.now) c.args.incoming.formula)
+    (trees c.sentence_residual.new.nodes) c.sentence_residual.result
+    (by_number (plain_problem c.args.task.now.problem) c.args.w.now (tree_at (trees c.args.nodes.now) c.args.incoming.formula)
+    (trees c.sentence_residual.new.nodes) (assignment_in c.args.env.now) c.sentence_residual.result
     (sym (ap assignment_in c.slots.ensures.values) ∙ c.is_empty_frame.ensures c.if-is_empty_frame.true) c.sentence_residual.ensures.number)
 
 pub returns-then-is_empty_frame-clause-cause : goal.returns-then-is_empty_frame-clause-cause
 returns-then-is_empty_frame-clause-cause c =
-    by_cause (plain_problem c.args.task.now.problem) c.args.w.now (tree_at (trees c.args.nodes.now) c.args.incoming.formula) (assignment_in c.args.env.now) c.sentence_residual.result
+    by_cause (plain_problem c.args.task.now.problem) c.args.w.now (tree_at (trees c.args.nodes.now) c.args.incoming.formula)
+    (assignment_in c.args.env.now) c.sentence_residual.result
     (sym (ap assignment_in c.slots.ensures.values) ∙ c.is_empty_frame.ensures c.if-is_empty_frame.true) c.sentence_residual.ensures.cause
 
 pub returns-clause-number : goal.returns-clause-number
 returns-clause-number c =
-    by_number (plain_problem c.args.task.now.problem) c.args.w.now (tree_at (trees c.args.nodes.now) c.args.incoming.formula) (trees c.sentence_residual-answer.new.nodes) (assignment_in c.restore.new.self) c.sentence_residual-answer.result
+    by_number (plain_problem c.args.task.now.problem) c.args.w.now (tree_at (trees c.args.nodes.now) c.args.incoming.formula)
+    (trees c.sentence_residual-answer.new.nodes) (assignment_in c.restore.new.self) c.sentence_residual-answer.result
     (ap assignment_in c.restore.ensures ∙ c.empty_frame-empty.ensures) c.sentence_residual-answer.ensures.number
 
 pub returns-clause-lemma : goal.returns-clause-lemma
 returns-clause-lemma c =
-    is-progression c.args.task.now c.args.w.now c.args.nodes.now c.args.incoming.formula c.sentence_residual-answer.new.nodes c.sentence_residual-answer.result
-    (by_number (plain_problem c.args.task.now.problem) c.args.w.now (tree_at (trees c.args.nodes.now) c.args.incoming.formula) (trees c.sentence_residual-answer.new.nodes) (assignment_in c.restore.new.self) c.sentence_residual-answer.result
+    is-progression c.args.task.now c.args.w.now c.args.nodes.now c.args.incoming.formula c.sentence_residual-answer.new.nodes
+    c.sentence_residual-answer.result
+    (by_number (plain_problem c.args.task.now.problem) c.args.w.now (tree_at (trees c.args.nodes.now) c.args.incoming.formula)
+    (trees c.sentence_residual-answer.new.nodes) (assignment_in c.restore.new.self) c.sentence_residual-answer.result
     (ap assignment_in c.restore.ensures ∙ c.empty_frame-empty.ensures) c.sentence_residual-answer.ensures.number)
 
 pub returns-clause-sentence : goal.returns-clause-sentence
 returns-clause-sentence c =
-    stands-alone (signature_of c.args.task.now.problem.domain) (plain_problem c.args.task.now.problem) c.args.w.now (tree_at (trees c.args.nodes.now) c.args.incoming.formula)
+    stands-alone (signature_of c.args.task.now.problem.domain) (plain_problem c.args.task.now.problem) c.args.w.now
+    (tree_at (trees c.args.nodes.now) c.args.incoming.formula)
     (trees c.sentence_residual-answer.new.nodes) c.sentence_residual-answer.result c.requires.sentence
-    (by_number (plain_problem c.args.task.now.problem) c.args.w.now (tree_at (trees c.args.nodes.now) c.args.incoming.formula) (trees c.sentence_residual-answer.new.nodes) (assignment_in c.restore.new.self) c.sentence_residual-answer.result
+    (by_number (plain_problem c.args.task.now.problem) c.args.w.now (tree_at (trees c.args.nodes.now) c.args.incoming.formula)
+    (trees c.sentence_residual-answer.new.nodes) (assignment_in c.restore.new.self) c.sentence_residual-answer.result
     (ap assignment_in c.restore.ensures ∙ c.empty_frame-empty.ensures) c.sentence_residual-answer.ensures.number)
 
 pub returns-clause-named : goal.returns-clause-named
 returns-clause-named c =
-    stays-named c.args.task.now.problem c.args.w.now (tree_at (trees c.args.nodes.now) c.args.incoming.formula) (trees c.sentence_residual-answer.new.nodes) c.sentence_residual-answer.result
-    (by_number (plain_problem c.args.task.now.problem) c.args.w.now (tree_at (trees c.args.nodes.now) c.args.incoming.formula) (trees c.sentence_residual-answer.new.nodes) (assignment_in c.restore.new.self) c.sentence_residual-answer.result
+    stays-named c.args.task.now.problem c.args.w.now (tree_at (trees c.args.nodes.now) c.args.incoming.formula)
+    (trees c.sentence_residual-answer.new.nodes) c.sentence_residual-answer.result
+    (by_number (plain_problem c.args.task.now.problem) c.args.w.now (tree_at (trees c.args.nodes.now) c.args.incoming.formula)
+    (trees c.sentence_residual-answer.new.nodes) (assignment_in c.restore.new.self) c.sentence_residual-answer.result
     (ap assignment_in c.restore.ensures ∙ c.empty_frame-empty.ensures) c.sentence_residual-answer.ensures.number)
 
 pub returns-clause-cause : goal.returns-clause-cause
 returns-clause-cause c =
-    by_cause (plain_problem c.args.task.now.problem) c.args.w.now (tree_at (trees c.args.nodes.now) c.args.incoming.formula) (assignment_in c.restore.new.self) c.sentence_residual-answer.result
+    by_cause (plain_problem c.args.task.now.problem) c.args.w.now (tree_at (trees c.args.nodes.now) c.args.incoming.formula)
+    (assignment_in c.restore.new.self) c.sentence_residual-answer.result
     (ap assignment_in c.restore.ensures ∙ c.empty_frame-empty.ensures) c.sentence_residual-answer.ensures.cause

@@ -17,14 +17,32 @@ plain_truth-requires c =
     omega (arith, less, c.requires.at)
 
 pub loop-part-preserved : goal.loop-part-preserved
-loop-part-preserved c = ids-on (λ (k : ℕ). idly_true (plain_problem c.args.formulas.now.here.now.task.now.problem) c.args.formulas.now.here.now.world.now (assignment_in c.args.env.now) (tree_at (trees c.args.formulas.now.nodes.now) k)) c.deciding_truth-stop.result c.as_slice-part-items.result.now c.loop-part.part-index c.loop-part.invariant c.loop-part-test.true c.in-Some.truth c.in-Some.ensures c.if-truth-stop.false
+loop-part-preserved c = ids-on (λ (k : ℕ). idly_true (plain_problem c.args.formulas.now.here.now.task.now.problem)
+    c.args.formulas.now.here.now.world.now (assignment_in c.args.env.now) (tree_at (trees c.args.formulas.now.nodes.now) k))
+    c.deciding_truth-stop.result c.as_slice-part-items.result.now c.loop-part.part-index c.loop-part.invariant c.loop-part-test.true
+    c.in-Some.truth c.in-Some.ensures c.if-truth-stop.false
 
 pub returns-then-truth-stop : goal.returns-then-truth-stop
 returns-then-truth-stop c =
-    ids-here (λ (k : ℕ). idly_true (plain_problem c.args.formulas.now.here.now.task.now.problem) c.args.formulas.now.here.now.world.now (assignment_in c.args.env.now) (tree_at (trees c.args.formulas.now.nodes.now) k)) c.deciding_truth-stop.result c.as_slice-part-items.result.now c.loop-part.part-index c.loop-part.invariant c.loop-part-test.true c.in-Some.truth c.in-Some.ensures c.if-truth-stop.true
-    ∙ (ap (decided c.deciding_truth-stop.result (λ (k : ℕ). idly_true (plain_problem c.args.formulas.now.here.now.task.now.problem) c.args.formulas.now.here.now.world.now (assignment_in c.args.env.now) (tree_at (trees c.args.formulas.now.nodes.now) k))) c.as_slice-part-items.ensures ∙ idle-join (trees c.args.formulas.now.nodes.now) (plain_problem c.args.formulas.now.here.now.task.now.problem) c.args.formulas.now.here.now.world.now (assignment_in c.args.env.now) c.args.join.now.junction c.deciding_truth-stop.result c.deciding_truth-stop.ensures c.args.join.now.parts.now)
+    ids-here (λ (k : ℕ). idly_true (plain_problem c.args.formulas.now.here.now.task.now.problem) c.args.formulas.now.here.now.world.now
+    (assignment_in c.args.env.now) (tree_at (trees c.args.formulas.now.nodes.now) k)) c.deciding_truth-stop.result
+    c.as_slice-part-items.result.now c.loop-part.part-index c.loop-part.invariant c.loop-part-test.true c.in-Some.truth
+    c.in-Some.ensures c.if-truth-stop.true
+    ∙ (ap (decided c.deciding_truth-stop.result (λ (k : ℕ). idly_true (plain_problem c.args.formulas.now.here.now.task.now.problem)
+    c.args.formulas.now.here.now.world.now (assignment_in c.args.env.now) (tree_at (trees c.args.formulas.now.nodes.now) k)))
+    c.as_slice-part-items.ensures ∙ idle-join (trees c.args.formulas.now.nodes.now)
+    (plain_problem c.args.formulas.now.here.now.task.now.problem) c.args.formulas.now.here.now.world.now
+    (assignment_in c.args.env.now) c.args.join.now.junction c.deciding_truth-stop.result c.deciding_truth-stop.ensures
+    c.args.join.now.parts.now)
 
 pub returns : goal.returns
 returns c =
-    ids-end (λ (k : ℕ). idly_true (plain_problem c.args.formulas.now.here.now.task.now.problem) c.args.formulas.now.here.now.world.now (assignment_in c.args.env.now) (tree_at (trees c.args.formulas.now.nodes.now) k)) c.deciding_truth-stop.result c.as_slice-part-items.result.now c.loop-part.part-index c.loop-part.invariant (omega (arith, c.loop-part-test.false))
-    ∙ (ap (decided c.deciding_truth-stop.result (λ (k : ℕ). idly_true (plain_problem c.args.formulas.now.here.now.task.now.problem) c.args.formulas.now.here.now.world.now (assignment_in c.args.env.now) (tree_at (trees c.args.formulas.now.nodes.now) k))) c.as_slice-part-items.ensures ∙ idle-join (trees c.args.formulas.now.nodes.now) (plain_problem c.args.formulas.now.here.now.task.now.problem) c.args.formulas.now.here.now.world.now (assignment_in c.args.env.now) c.args.join.now.junction c.deciding_truth-stop.result c.deciding_truth-stop.ensures c.args.join.now.parts.now)
+    ids-end (λ (k : ℕ). idly_true (plain_problem c.args.formulas.now.here.now.task.now.problem) c.args.formulas.now.here.now.world.now
+    (assignment_in c.args.env.now) (tree_at (trees c.args.formulas.now.nodes.now) k)) c.deciding_truth-stop.result
+    c.as_slice-part-items.result.now c.loop-part.part-index c.loop-part.invariant (omega (arith, c.loop-part-test.false))
+    ∙ (ap (decided c.deciding_truth-stop.result (λ (k : ℕ). idly_true (plain_problem c.args.formulas.now.here.now.task.now.problem)
+    c.args.formulas.now.here.now.world.now (assignment_in c.args.env.now) (tree_at (trees c.args.formulas.now.nodes.now) k)))
+    c.as_slice-part-items.ensures ∙ idle-join (trees c.args.formulas.now.nodes.now)
+    (plain_problem c.args.formulas.now.here.now.task.now.problem) c.args.formulas.now.here.now.world.now
+    (assignment_in c.args.env.now) c.args.join.now.junction c.deciding_truth-stop.result c.deciding_truth-stop.ensures
+    c.args.join.now.parts.now)

@@ -8,5 +8,7 @@ use Rattle.tl_progress.proofs.quick.plain_join.Given as goal
 
 abbrev pub invariant-loop-part : goal.invariant-loop-part
 invariant-loop-part l =
-    decided l.stop (λ (k : ℕ). idly_true (plain_problem l.formulas.here.now.task.now.problem) l.formulas.here.now.world.now (assignment_in l.env) (tree_at (trees l.formulas.nodes.now) k)) l.part-items
-    ≡ decided l.stop (λ (k : ℕ). idly_true (plain_problem l.formulas.here.now.task.now.problem) l.formulas.here.now.world.now (assignment_in l.env) (tree_at (trees l.formulas.nodes.now) k)) (drop l.part-index l.part-items)
+    decided l.stop (λ (k : ℕ). idly_true (plain_problem l.formulas.here.now.task.now.problem) l.formulas.here.now.world.now
+    (assignment_in l.env) (tree_at (trees l.formulas.nodes.now) k)) l.part-items
+    ≡ decided l.stop (λ (k : ℕ). idly_true (plain_problem l.formulas.here.now.task.now.problem) l.formulas.here.now.world.now
+    (assignment_in l.env) (tree_at (trees l.formulas.nodes.now) k)) (drop l.part-index l.part-items)

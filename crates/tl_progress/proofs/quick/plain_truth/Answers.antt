@@ -10,9 +10,12 @@ use Rattle.tl_progress.proofs.quick.plain_truth.Goals as goal
 
 pub plain_basic-requires : goal.plain_basic-requires
 plain_basic-requires c =
-    let low = part-lower true (trees c.args.formulas.now.nodes.now) c.args.at c.in-Not.part c.get.result.now c.get.ensures.tree c.get.ensures.parts (subst (λ n. Among c.in-Not.part (parts true n)) (sym c.in-Not.is) (inl refl)) in
+    let low = part-lower true (trees c.args.formulas.now.nodes.now) c.args.at c.in-Not.part c.get.result.now c.get.ensures.tree
+    c.get.ensures.parts (subst (λ n. Among c.in-Not.part (parts true n)) (sym c.in-Not.is) (inl refl)) in
     let less = low.less in
     omega (arith, less, c.requires)
 
 pub returns-in-Some : goal.returns-in-Some
-returns-in-Some c = idle-Not (trees c.args.formulas.now.nodes.now) c.args.at c.get.result.now c.get.ensures.tree (plain_problem c.args.formulas.now.here.now.task.now.problem) c.args.formulas.now.here.now.world.now (assignment_in c.args.env.now) c.in-Not.part c.in-Some.truth c.in-Not.is c.in-Some.ensures
+returns-in-Some c = idle-Not (trees c.args.formulas.now.nodes.now) c.args.at c.get.result.now c.get.ensures.tree
+    (plain_problem c.args.formulas.now.here.now.task.now.problem) c.args.formulas.now.here.now.world.now
+    (assignment_in c.args.env.now) c.in-Not.part c.in-Some.truth c.in-Not.is c.in-Some.ensures

@@ -35,18 +35,28 @@ invariant-join_residual-loop-i l = record {
   remembers : AreTruths (plain_problem l.here.task.now.problem) l.here.world.now l.memory;
   frame : l.env ≡ l.fn.env;
   kept : Keeps (trees l.fn.nodes) (trees l.nodes);
-  passed : Gathered l.whole.junction (trees l.nodes) l.answers (map (residual (plain_problem l.here.task.now.problem) l.here.world.now (assignment_in l.fn.env)) (drop l.i (join_parts (tree_at (trees l.fn.nodes) l.whole.at)))) (map (residual (plain_problem l.here.task.now.problem) l.here.world.now (assignment_in l.fn.env)) (join_parts (tree_at (trees l.fn.nodes) l.whole.at)));
+  passed : Gathered l.whole.junction (trees l.nodes) l.answers (map (residual (plain_problem l.here.task.now.problem) l.here.world.now
+      (assignment_in l.fn.env)) (drop l.i (join_parts (tree_at (trees l.fn.nodes) l.whole.at))))
+      (map (residual (plain_problem l.here.task.now.problem) l.here.world.now (assignment_in l.fn.env))
+      (join_parts (tree_at (trees l.fn.nodes) l.whole.at)));
 }
 
 abbrev pub decreases-instances_residual-tuples : goal.decreases-instances_residual-tuples
-decreases-instances_residual-tuples l = length (left_after (plain_problem l.here.task.now.problem) l.here.world.now (assignment_in l.fn.env) (node_vars (trees l.fn.nodes) l.quantifier) (node_bound (trees l.fn.nodes) l.quantifier) (tree_at (trees l.fn.nodes) l.quantifier.part) l.tuples.tuple)
+decreases-instances_residual-tuples l = length (left_after (plain_problem l.here.task.now.problem) l.here.world.now (assignment_in l.fn.env)
+    (node_vars (trees l.fn.nodes) l.quantifier) (node_bound (trees l.fn.nodes) l.quantifier)
+    (tree_at (trees l.fn.nodes) l.quantifier.part) l.tuples.tuple)
 
 abbrev pub invariant-instances_residual-tuples : goal.invariant-instances_residual-tuples
 invariant-instances_residual-tuples l = record {
   remembers : AreTruths (plain_problem l.here.task.now.problem) l.here.world.now l.memory;
   kept : Keeps (trees l.fn.nodes) (trees l.nodes);
-  reads : ReadsBound (situation_of (plain_problem l.here.task.now.problem) l.here.world.now) (node_vars (trees l.fn.nodes) l.quantifier) (assignment_in l.fn.env) (node_bound (trees l.fn.nodes) l.quantifier) l.tuples;
+  reads : ReadsBound (situation_of (plain_problem l.here.task.now.problem) l.here.world.now) (node_vars (trees l.fn.nodes) l.quantifier)
+      (assignment_in l.fn.env) (node_bound (trees l.fn.nodes) l.quantifier) l.tuples;
   others : AgreeElsewhere (node_vars (trees l.fn.nodes) l.quantifier) (assignment_in l.env) (assignment_in l.fn.env);
-  passed : Gathered l.quantifier.junction (trees l.nodes) l.answers (next_after (plain_problem l.here.task.now.problem) l.here.world.now (assignment_in l.fn.env) (node_vars (trees l.fn.nodes) l.quantifier) (node_bound (trees l.fn.nodes) l.quantifier) (tree_at (trees l.fn.nodes) l.quantifier.part) l.tuples.tuple)
-      (next_of_all (plain_problem l.here.task.now.problem) l.here.world.now (assignment_in l.fn.env) (node_vars (trees l.fn.nodes) l.quantifier) (node_bound (trees l.fn.nodes) l.quantifier) (tree_at (trees l.fn.nodes) l.quantifier.part));
+  passed : Gathered l.quantifier.junction (trees l.nodes) l.answers (next_after (plain_problem l.here.task.now.problem) l.here.world.now
+      (assignment_in l.fn.env) (node_vars (trees l.fn.nodes) l.quantifier) (node_bound (trees l.fn.nodes) l.quantifier)
+      (tree_at (trees l.fn.nodes) l.quantifier.part) l.tuples.tuple)
+      (next_of_all (plain_problem l.here.task.now.problem) l.here.world.now (assignment_in l.fn.env)
+      (node_vars (trees l.fn.nodes) l.quantifier) (node_bound (trees l.fn.nodes) l.quantifier)
+      (tree_at (trees l.fn.nodes) l.quantifier.part));
 }

@@ -35,17 +35,24 @@ abbrev pub invariant-join_truth-loop-part : goal.invariant-join_truth-loop-part
 invariant-join_truth-loop-part l = record {
   remembers : AreTruths (plain_problem l.formulas.here.now.task.now.problem) l.formulas.here.now.world.now l.memory;
   frame : l.env ≡ l.fn.env;
-  passed : decided l.stop (λ (k : ℕ). idly_true (plain_problem l.formulas.here.now.task.now.problem) l.formulas.here.now.world.now (assignment_in l.fn.env) (tree_at (trees l.formulas.nodes.now) k)) l.part-items
-      ≡ decided l.stop (λ (k : ℕ). idly_true (plain_problem l.formulas.here.now.task.now.problem) l.formulas.here.now.world.now (assignment_in l.fn.env) (tree_at (trees l.formulas.nodes.now) k)) (drop l.part-index l.part-items);
+  passed : decided l.stop (λ (k : ℕ). idly_true (plain_problem l.formulas.here.now.task.now.problem) l.formulas.here.now.world.now
+      (assignment_in l.fn.env) (tree_at (trees l.formulas.nodes.now) k)) l.part-items
+      ≡ decided l.stop (λ (k : ℕ). idly_true (plain_problem l.formulas.here.now.task.now.problem) l.formulas.here.now.world.now
+      (assignment_in l.fn.env) (tree_at (trees l.formulas.nodes.now) k)) (drop l.part-index l.part-items);
 }
 
 abbrev pub decreases-instances_truth-tuples : goal.decreases-instances_truth-tuples
-decreases-instances_truth-tuples l = length (left_after (plain_problem l.formulas.here.now.task.now.problem) l.formulas.here.now.world.now (assignment_in l.fn.env) l.quantified.vars.now l.quantified.bound.now (tree_at (trees l.formulas.nodes.now) l.quantified.part) l.tuples.tuple)
+decreases-instances_truth-tuples l = length (left_after (plain_problem l.formulas.here.now.task.now.problem) l.formulas.here.now.world.now
+    (assignment_in l.fn.env) l.quantified.vars.now l.quantified.bound.now
+    (tree_at (trees l.formulas.nodes.now) l.quantified.part) l.tuples.tuple)
 
 abbrev pub invariant-instances_truth-tuples : goal.invariant-instances_truth-tuples
 invariant-instances_truth-tuples l = record {
   remembers : AreTruths (plain_problem l.formulas.here.now.task.now.problem) l.formulas.here.now.world.now l.memory;
-  reads : ReadsBound (situation_of (plain_problem l.formulas.here.now.task.now.problem) l.formulas.here.now.world.now) l.quantified.vars.now (assignment_in l.fn.env) l.quantified.bound.now l.tuples;
+  reads : ReadsBound (situation_of (plain_problem l.formulas.here.now.task.now.problem) l.formulas.here.now.world.now) l.quantified.vars.now
+      (assignment_in l.fn.env) l.quantified.bound.now l.tuples;
   others : AgreeElsewhere l.quantified.vars.now (assignment_in l.env) (assignment_in l.fn.env);
-  passed : Open (plain_problem l.formulas.here.now.task.now.problem) l.formulas.here.now.world.now (assignment_in l.fn.env) l.quantified.vars.now l.quantified.bound.now (tree_at (trees l.formulas.nodes.now) l.quantified.part) l.stop l.tuples.tuple;
+  passed : Open (plain_problem l.formulas.here.now.task.now.problem) l.formulas.here.now.world.now
+      (assignment_in l.fn.env) l.quantified.vars.now l.quantified.bound.now
+      (tree_at (trees l.formulas.nodes.now) l.quantified.part) l.stop l.tuples.tuple;
 }

@@ -8,7 +8,8 @@ abbrev pub invariant-loop-file : goal.invariant-loop-file
 invariant-loop-file g l = record {
   read : HasRead (g.S.Store.files l.initial.store) (command_meant l.fn.command) l.file-index l.input;
   begun : BegunInTurn (g.S.Store.files l.initial.store) (command_meant l.fn.command) l.file-index;
-  calls : BeginsFirst (command_meant l.fn.command) (record { before = g.S.Store.calls l.initial.store; after = g.S.Store.calls l.store }) l.file-index false;
+  calls : BeginsFirst (command_meant l.fn.command) (record { before = g.S.Store.calls l.initial.store; after = g.S.Store.calls l.store })
+      l.file-index false;
   number : l.number ≡ l.file-index;
   files : g.S.Store.files l.store ≡ g.S.Store.files l.initial.store;
   later : g.S.Store.faults l.initial.store ≤ g.S.Store.faults l.store;

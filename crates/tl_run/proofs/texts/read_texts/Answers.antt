@@ -13,7 +13,8 @@ first_stops balls ReadFault h = absurd h
 first_stops balls NoMemory h = tt
 first_stops balls (Refused k b) h = inl (h.0, h.1)
 
-second_stops : (balls : ℕ) (domain : Input) (stop : Stop) → StandsFor role.Domain nothing domain_text domain → IsFileStop 2 (IsBroken role.Problem domain (problem_text balls)) stop → IsSampleStop balls stop
+second_stops : (balls : ℕ) (domain : Input) (stop : Stop) → StandsFor role.Domain nothing domain_text domain →
+    IsFileStop 2 (IsBroken role.Problem domain (problem_text balls)) stop → IsSampleStop balls stop
 second_stops balls domain ReadFault stands h = absurd h
 second_stops balls domain NoMemory stands h = tt
 second_stops balls domain (Refused k b) stands h = inr (h.0, (domain, stands, h.1))
@@ -29,7 +30,8 @@ returns-in_err-add_bytes-2-clause-stop c =
     let stop = c.in_err-add_bytes-2.field-0.0 in
     let first = c.in_ok-add_bytes.ensures.held nothing tt in
     handed_on c.from_residual-in_err-add_bytes-2.result stop (IsSampleStop c.args.balls) c.from_residual-in_err-add_bytes-2.ensures.1
-    (second_stops c.args.balls first.0 stop (rw c.requires.domain at first.1) (rw c.requires.problem at (c.in_err-add_bytes-2.ensures.stop first.0 first.2)))
+    (second_stops c.args.balls first.0 stop (rw c.requires.domain at first.1)
+    (rw c.requires.problem at (c.in_err-add_bytes-2.ensures.stop first.0 first.2)))
 
 pub returns-clause-held : goal.returns-clause-held
 returns-clause-held c =

@@ -5,7 +5,8 @@ use Rattle.tl_space.proofs.Keeping.{numbers_eq, numbers-tells}
 use Rattle.tl_space.proofs.arrivals.add_other.Goals as goal
 
 pub returns-in-Ok : goal.returns-in-Ok
-returns-in-Ok c = one-more-other numbers_eq numbers-tells c.args.others.now.entries c.insert.new.self.entries c.args.key c.args.arrival c.in-Ok.ensures.entries
+returns-in-Ok c = one-more-other numbers_eq numbers-tells c.args.others.now.entries c.insert.new.self.entries c.args.key c.args.arrival
+    c.in-Ok.ensures.entries
 
 pub returns-in-Err : goal.returns-in-Err
 returns-in-Err c =

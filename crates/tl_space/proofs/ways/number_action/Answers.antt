@@ -7,4 +7,5 @@ pub returns-clause-stay : goal.returns-clause-stay
 returns-clause-stay c = stay-added _ _ c.args.action (added (action_impl.ghosts).eq action-tells _ _ _ c.in_ok-number.ensures.keys)
 
 pub returns-clause-number : goal.returns-clause-number
-returns-clause-number c = let s = c.in_ok-number.ensures.stored in stored (action_impl.ghosts).eq action-tells c.args.action s.0 _ c.in_ok-number.number s.1 s.2
+returns-clause-number c = let s = c.in_ok-number.ensures.stored in stored
+    (action_impl.ghosts).eq action-tells c.args.action s.0 _ c.in_ok-number.number s.1 s.2

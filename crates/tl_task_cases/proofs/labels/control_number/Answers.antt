@@ -10,4 +10,5 @@ returns-clause-number c = slice_get_within (trees c.of_tree.new.self) c.in_ok-nu
 
 pub returns-clause-named : goal.returns-clause-named
 returns-clause-named c =
-    subst (IsNamed (length c.args.problem.now.names)) (sym (at-is (trees c.of_tree.new.self) c.in_ok-number.number _ c.in_ok-number.ensures.number)) c.args.problem.now.domain_keeps.control_named
+    subst (IsNamed (length c.args.problem.now.names)) (sym (at-is (trees c.of_tree.new.self) c.in_ok-number.number _
+    c.in_ok-number.ensures.number)) c.args.problem.now.domain_keeps.control_named

@@ -20,4 +20,5 @@ returns-clause-number c = slice_get_within (trees c.intern-2.new.self) c.in_ok-n
 pub returns-clause-named : goal.returns-clause-named
 unfolding tree_of_node IsNamed
 returns-clause-named c = λ n h.
-    subst (IsNamed n) (sym (at-is (trees c.intern-2.new.self) c.in_ok-number.number _ c.in_ok-number.ensures.number ∙ ap negation (at-is (trees c.intern.new.self) c.in_ok-always.always _ c.in_ok-always.ensures.number))) h
+    subst (IsNamed n) (sym (at-is (trees c.intern-2.new.self) c.in_ok-number.number _ c.in_ok-number.ensures.number ∙
+    ap negation (at-is (trees c.intern.new.self) c.in_ok-always.always _ c.in_ok-always.ensures.number))) h

@@ -27,5 +27,6 @@ returns-clause-number c = slice_get_within (trees c.intern-2.new.self) c.in_ok-n
 pub returns-clause-sentence : goal.returns-clause-sentence
 unfolding tree_of_node
 returns-clause-sentence c = λ g s.
-    subst (IsSentence g) (sym (at-is (trees c.intern-2.new.self) c.in_ok-number.number _ c.in_ok-number.ensures.number ∙ ap negation (at-is (trees c.intern.new.self) c.in_ok-always.always _ c.in_ok-always.ensures.number)))
+    subst (IsSentence g) (sym (at-is (trees c.intern-2.new.self) c.in_ok-number.number _ c.in_ok-number.ensures.number ∙
+    ap negation (at-is (trees c.intern.new.self) c.in_ok-always.always _ c.in_ok-always.ensures.number)))
     (around g (tree_at (trees c.args.nodes.now) c.args.id) s)

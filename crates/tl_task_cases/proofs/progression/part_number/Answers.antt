@@ -12,5 +12,6 @@ part_of-requires c = slice_get_within (trees c.of_tree.new.self) c.in_ok-whole.w
 pub returns-clause-sentence : goal.returns-clause-sentence
 returns-clause-sentence c =
     c.in_ok-number.ensures.sentence (signature_of c.args.task.now.problem.domain)
-    (subst (IsSentence (signature_of c.args.task.now.problem.domain)) (sym (at-is (trees c.of_tree.new.self) c.in_ok-whole.whole _ c.in_ok-whole.ensures.number))
+    (subst (IsSentence (signature_of c.args.task.now.problem.domain)) (sym
+    (at-is (trees c.of_tree.new.self) c.in_ok-whole.whole _ c.in_ok-whole.ensures.number))
     (record { fits = c.args.task.now.problem.domain_keeps.control_fits; closed = c.args.task.now.problem.domain_keeps.control_closed }))

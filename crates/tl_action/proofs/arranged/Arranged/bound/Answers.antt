@@ -17,12 +17,15 @@ offset_bounds-bounds-j-else-j-self c =
     search rules
 
 pub returns-then-j-eq0 : goal.returns-then-j-eq0
-returns-then-j-eq0 c = at-first c.args.self.now c.as_slice-bounds.result.now c.as_slice-bounds.ensures c.args.j c.index-bounds-self.result c.requires c.if-j-eq0.true c.index-bounds-self.is
+returns-then-j-eq0 c = at-first c.args.self.now c.as_slice-bounds.result.now c.as_slice-bounds.ensures c.args.j c.index-bounds-self.result
+    c.requires c.if-j-eq0.true c.index-bounds-self.is
 
 pub returns-then-j-self : goal.returns-then-j-self
 returns-then-j-self c =
     let some : 0 < c.args.j = omega (arith, c.if-j-eq0.false) in
-    at-before c.args.self.now c.as_slice-bounds.result.now c.as_slice-bounds.ensures c.args.j c.index-bounds-j.result c.requires some c.if-j-self.true c.index-bounds-j.is
+    at-before c.args.self.now c.as_slice-bounds.result.now c.as_slice-bounds.ensures c.args.j c.index-bounds-j.result c.requires some
+    c.if-j-self.true c.index-bounds-j.is
 
 pub returns-else-j-self : goal.returns-else-j-self
-returns-else-j-self c = at-after c.args.self.now c.as_slice-bounds.result.now c.as_slice-bounds.ensures c.args.j c.index-bounds-j-else-j-self.result c.requires c.if-j-self.false c.index-bounds-j-else-j-self.is
+returns-else-j-self c = at-after c.args.self.now c.as_slice-bounds.result.now c.as_slice-bounds.ensures c.args.j
+    c.index-bounds-j-else-j-self.result c.requires c.if-j-self.false c.index-bounds-j-else-j-self.is

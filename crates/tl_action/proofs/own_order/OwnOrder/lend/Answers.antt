@@ -9,6 +9,7 @@ invariant_of-result c =
     let own = c.self.view_is ∙ c.requires in
     let o = c.args.operator.now in
     record {
-      new_parameters_are = ap (λ v. v.items) c.replace-new_parameters.ensures.value ∙ (ap (λ x. x.0) own ∙ ap (λ (bs : List Bound). new_from o.params [] bs) (sym (first-first o.bounds)));
+      new_parameters_are = ap (λ v. v.items) c.replace-new_parameters.ensures.value ∙
+          (ap (λ x. x.0) own ∙ ap (λ (bs : List Bound). new_from o.params [] bs) (sym (first-first o.bounds)));
       sure_is = ap (λ x. x.1) own;
     }

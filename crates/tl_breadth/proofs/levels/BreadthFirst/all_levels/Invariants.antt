@@ -10,6 +10,9 @@ invariant-loop-depth g l = record {
   task : g.S.SearchSpace.task l.space ≡ g.S.SearchSpace.task l.fn.space;
   problem : g.S.SearchSpace.problem l.space ≡ g.S.SearchSpace.problem l.fn.space;
   events_named : EventsAreNamed (g.S.SearchSpace.task l.fn.space) l.events;
-  level : IsAtLevel (g.S.SearchSpace.problem l.fn.space) l.self.within l.self.nodes (g.S.SearchSpace.kept l.space) l.at (length (g.S.SearchSpace.kept l.space)) l.depth;
-  reported : (from : ℕ) → IsReported (g.S.SearchSpace.problem l.fn.space) l.self.within l.self.watch from (g.S.SearchSpace.kept l.fn.space) 0 [] l.fn.events l.fn.steps → IsReported (g.S.SearchSpace.problem l.fn.space) l.self.within l.self.watch from (g.S.SearchSpace.kept l.space) l.at [] l.events l.steps;
+  level : IsAtLevel (g.S.SearchSpace.problem l.fn.space) l.self.within l.self.nodes (g.S.SearchSpace.kept l.space) l.at
+      (length (g.S.SearchSpace.kept l.space)) l.depth;
+  reported : (from : ℕ) → IsReported (g.S.SearchSpace.problem l.fn.space) l.self.within l.self.watch from
+      (g.S.SearchSpace.kept l.fn.space) 0 [] l.fn.events l.fn.steps → IsReported
+      (g.S.SearchSpace.problem l.fn.space) l.self.within l.self.watch from (g.S.SearchSpace.kept l.space) l.at [] l.events l.steps;
 }

@@ -14,8 +14,14 @@ invariant-loop-a g l = record {
   problem : g.S.SearchSpace.problem l.space ≡ g.S.SearchSpace.problem l.fn.space;
   listed_named : AreNamedIn (g.S.SearchSpace.task l.fn.space) l.a-items;
   events_named : EventsAreNamed (g.S.SearchSpace.task l.fn.space) l.events;
-  lists : (x : KeptPair) → slice_get (g.S.SearchSpace.kept l.fn.space) l.at ≡ Some x → ListsActions (g.S.SearchSpace.problem l.fn.space) x.node.world l.a-items;
-  searching : IsSearching (g.S.SearchSpace.problem l.fn.space) l.self.within l.self.nodes (g.S.SearchSpace.kept l.space) l.at (take l.a-index l.a-items);
-  grows : (x : KeptPair) → slice_get (g.S.SearchSpace.kept l.fn.space) l.at ≡ Some x → GrowsBy (length x.path + 1) (g.S.SearchSpace.kept l.fn.space) (g.S.SearchSpace.kept l.space);
-  reported : (from : ℕ) → IsReported (g.S.SearchSpace.problem l.fn.space) l.self.within l.self.watch from (g.S.SearchSpace.kept l.fn.space) l.at [] l.fn.events l.fn.steps → IsReported (g.S.SearchSpace.problem l.fn.space) l.self.within l.self.watch from (g.S.SearchSpace.kept l.space) l.at (take l.a-index l.a-items) l.events l.steps;
+  lists : (x : KeptPair) → slice_get (g.S.SearchSpace.kept l.fn.space) l.at ≡ Some x →
+      ListsActions (g.S.SearchSpace.problem l.fn.space) x.node.world l.a-items;
+  searching : IsSearching (g.S.SearchSpace.problem l.fn.space) l.self.within l.self.nodes (g.S.SearchSpace.kept l.space) l.at
+      (take l.a-index l.a-items);
+  grows : (x : KeptPair) → slice_get (g.S.SearchSpace.kept l.fn.space) l.at ≡ Some x →
+      GrowsBy (length x.path + 1) (g.S.SearchSpace.kept l.fn.space) (g.S.SearchSpace.kept l.space);
+  reported : (from : ℕ) → IsReported (g.S.SearchSpace.problem l.fn.space) l.self.within l.self.watch from
+      (g.S.SearchSpace.kept l.fn.space) l.at [] l.fn.events l.fn.steps →
+      IsReported (g.S.SearchSpace.problem l.fn.space) l.self.within l.self.watch from (g.S.SearchSpace.kept l.space) l.at
+      (take l.a-index l.a-items) l.events l.steps;
 }

@@ -13,7 +13,9 @@ search_node_fault-requires-clause-here g c =
 pub returns-in-Err-clause-fault : goal.returns-in-Err-clause-fault
 returns-in-Err-clause-fault g c = λ x e.
     idling-told _ x c.in-Err.fault c.search_node_fault.result
-    (c.search_node_fault.ensures.fault x (subst (λ xs. slice_get xs c.args.at ≡ Some x) (sym c.accepted.ensures.kept) e)) (c.in-Err.ensures.cause x e)
+    (c.search_node_fault.ensures.fault x (subst (λ xs. slice_get xs c.args.at ≡ Some x) (sym c.accepted.ensures.kept) e))
+    (c.in-Err.ensures.cause x e)
 
 pub returns-in-Err-clause-path_named : goal.returns-in-Err-clause-path_named
-returns-in-Err-clause-path_named g c = subst (λ t. FaultIsNamed t c.search_node_fault.result) c.accepted.ensures.task c.search_node_fault.ensures.named
+returns-in-Err-clause-path_named g c = subst (λ t. FaultIsNamed t c.search_node_fault.result) c.accepted.ensures.task
+    c.search_node_fault.ensures.named

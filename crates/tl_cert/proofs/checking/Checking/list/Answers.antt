@@ -13,7 +13,9 @@ use Rattle.tl_cert.proofs.checking.Checking.list.Goals as goal
 pub overflow_add-depth : goal.overflow_add-depth
 overflow_add-depth g c =
     let old = g.S.SearchSpace.kept c.args.space.now in
-    let h : c.in-Some.depth + 1 < 2 ^ 32 = depth-small old c.args.link.now.from c.in-Some.depth (depth-at c.args.self.now.depths old c.args.link.now.from c.in-Some.depth c.requires.ready.depths c.in-Some.ensures) c.requires.ready.short c.requires.few in
+    let h : c.in-Some.depth + 1 < 2 ^ 32 = depth-small old c.args.link.now.from c.in-Some.depth
+    (depth-at c.args.self.now.depths old c.args.link.now.from c.in-Some.depth c.requires.ready.depths c.in-Some.ensures)
+    c.requires.ready.short c.requires.few in
     omega (arith, h)
 
 pub returns-in_ok-push-in-Ok-Fresh-clause-listed : goal.returns-in_ok-push-in-Ok-Fresh-clause-listed
@@ -27,7 +29,9 @@ returns-in_ok-push-in-Ok-Fresh-clause-listed g c =
     let x = from p b old link c.in-Some.depth at in
     link-fresh p b old link c.in-Some.depth at new c.in-Ok-Fresh.field-0-0 (sym c.goes_on.ensures ∙ c.if-not-goes_on.false)
     (subst (λ q. AreKept (pair_graph q) new) (c.child.ensures.problem ∙ c.has_step.ensures.problem) c.child.ensures.kept)
-    (arrives-over p (g.S.SearchSpace.problem c.has_step.new.space) old (g.S.SearchSpace.kept c.has_step.new.space) new link.from link.action (arrival.Fresh c.in-Ok-Fresh.field-0-0) c.has_step.ensures.problem c.has_step.ensures.kept (rw c.in-Ok-Fresh.field-0-is at c.in-Ok-Fresh.ensures.arrival) x.0 x.1)
+    (arrives-over p (g.S.SearchSpace.problem c.has_step.new.space) old (g.S.SearchSpace.kept c.has_step.new.space) new link.from link.action
+    (arrival.Fresh c.in-Ok-Fresh.field-0-0) c.has_step.ensures.problem c.has_step.ensures.kept
+    (rw c.in-Ok-Fresh.field-0-is at c.in-Ok-Fresh.ensures.arrival) x.0 x.1)
 
 pub returns-in_ok-push-in-Ok-Fresh-clause-ready : goal.returns-in_ok-push-in-Ok-Fresh-clause-ready
 returns-in_ok-push-in-Ok-Fresh-clause-ready g c t =
@@ -38,27 +42,40 @@ returns-in_ok-push-in-Ok-Fresh-clause-ready g c t =
     let link = c.args.link.now in
     let at = depth-at c.args.self.now.depths old link.from c.in-Some.depth c.requires.ready.depths c.in-Some.ensures in
     let x = from p b old link c.in-Some.depth at in
-    let listed : ListsLink p b old new link true = link-fresh p b old link c.in-Some.depth at new c.in-Ok-Fresh.field-0-0 (sym c.goes_on.ensures ∙ c.if-not-goes_on.false)
+    let listed : ListsLink p b old new link true = link-fresh p b old link c.in-Some.depth at new c.in-Ok-Fresh.field-0-0
+    (sym c.goes_on.ensures ∙ c.if-not-goes_on.false)
     (subst (λ q. AreKept (pair_graph q) new) (c.child.ensures.problem ∙ c.has_step.ensures.problem) c.child.ensures.kept)
-    (arrives-over p (g.S.SearchSpace.problem c.has_step.new.space) old (g.S.SearchSpace.kept c.has_step.new.space) new link.from link.action (arrival.Fresh c.in-Ok-Fresh.field-0-0) c.has_step.ensures.problem c.has_step.ensures.kept (rw c.in-Ok-Fresh.field-0-is at c.in-Ok-Fresh.ensures.arrival) x.0 x.1) in
-    ready-more (g.S.SearchSpace.task c.args.space.now) p b old new link c.in-Some.depth (record { alloc = c.args.self.now.alloc; bound = b; depths = c.push.new.self; known = c.has_step.new.known }) at c.requires.ready.short c.in_ok-has_step.ensures.known
+    (arrives-over p (g.S.SearchSpace.problem c.has_step.new.space) old (g.S.SearchSpace.kept c.has_step.new.space) new link.from link.action
+    (arrival.Fresh c.in-Ok-Fresh.field-0-0) c.has_step.ensures.problem c.has_step.ensures.kept
+    (rw c.in-Ok-Fresh.field-0-is at c.in-Ok-Fresh.ensures.arrival) x.0 x.1) in
+    ready-more (g.S.SearchSpace.task c.args.space.now) p b old new link c.in-Some.depth
+    (record { alloc = c.args.self.now.alloc; bound = b; depths = c.push.new.self; known = c.has_step.new.known }) at
+    c.requires.ready.short c.in_ok-has_step.ensures.known
     (c.in_ok-push-in-Ok-Fresh.ensures ∙ ap (λ ds. ds ++ (c.in-Some.depth + 1) ∷ []) c.requires.ready.depths) listed
 
 pub returns-in_err-has_step-clause-there : goal.returns-in_err-has_step-clause-there
-returns-in_err-has_step-clause-there g c = err-anyway (c.args.link.now.from < length (g.S.SearchSpace.kept c.args.space.now)) _ (there c.args.self.now.depths (g.S.SearchSpace.kept c.args.space.now) c.args.link.now.from c.in-Some.depth c.requires.ready.depths c.in-Some.ensures)
+returns-in_err-has_step-clause-there g c = err-anyway (c.args.link.now.from < length (g.S.SearchSpace.kept c.args.space.now)) _
+    (there c.args.self.now.depths (g.S.SearchSpace.kept c.args.space.now) c.args.link.now.from c.in-Some.depth c.requires.ready.depths
+    c.in-Some.ensures)
 
 pub returns-in_err-push-in-Ok-Fresh-clause-there : goal.returns-in_err-push-in-Ok-Fresh-clause-there
-returns-in_err-push-in-Ok-Fresh-clause-there g c = err-anyway (c.args.link.now.from < length (g.S.SearchSpace.kept c.args.space.now)) _ (there c.args.self.now.depths (g.S.SearchSpace.kept c.args.space.now) c.args.link.now.from c.in-Some.depth c.requires.ready.depths c.in-Some.ensures)
+returns-in_err-push-in-Ok-Fresh-clause-there g c = err-anyway (c.args.link.now.from < length (g.S.SearchSpace.kept c.args.space.now)) _
+    (there c.args.self.now.depths (g.S.SearchSpace.kept c.args.space.now) c.args.link.now.from c.in-Some.depth c.requires.ready.depths
+    c.in-Some.ensures)
 
 pub returns-in-Err-clause-there : goal.returns-in-Err-clause-there
-returns-in-Err-clause-there g c = there c.args.self.now.depths (g.S.SearchSpace.kept c.args.space.now) c.args.link.now.from c.in-Some.depth c.requires.ready.depths c.in-Some.ensures
+returns-in-Err-clause-there g c = there c.args.self.now.depths (g.S.SearchSpace.kept c.args.space.now) c.args.link.now.from c.in-Some.depth
+    c.requires.ready.depths c.in-Some.ensures
 
 pub returns-in-Err-clause-fault : goal.returns-in-Err-clause-fault
 returns-in-Err-clause-fault g c = λ x e.
     let link = c.args.link.now in
-    let k : slice_get (g.S.SearchSpace.kept c.has_step.new.space) link.from ≡ Some x = subst (λ xs. slice_get xs link.from ≡ Some x) (sym c.has_step.ensures.kept) e in
-    visit-told _ link.action x c.in-Err.fault c.child_fault.result (c.child_fault.ensures.fault x (subst (λ xs. slice_get xs link.from ≡ Some x) (sym c.in-Err.ensures.refused) k))
+    let k : slice_get (g.S.SearchSpace.kept c.has_step.new.space) link.from ≡ Some x =
+    subst (λ xs. slice_get xs link.from ≡ Some x) (sym c.has_step.ensures.kept) e in
+    visit-told _ link.action x c.in-Err.fault c.child_fault.result (c.child_fault.ensures.fault x
+    (subst (λ xs. slice_get xs link.from ≡ Some x) (sym c.in-Err.ensures.refused) k))
     (subst (λ p. IsCausedByChild p x.node link.action c.in-Err.fault) c.has_step.ensures.problem (c.in-Err.ensures.cause x k))
 
 pub returns-in-Err-clause-named : goal.returns-in-Err-clause-named
-returns-in-Err-clause-named g c = subst (λ t. FaultIsNamed t c.child_fault.result) (c.child.ensures.task ∙ c.has_step.ensures.task) c.child_fault.ensures.named
+returns-in-Err-clause-named g c = subst (λ t. FaultIsNamed t c.child_fault.result)
+    (c.child.ensures.task ∙ c.has_step.ensures.task) c.child_fault.ensures.named

@@ -18,7 +18,8 @@ returns-in_err-list-clause-fault g c =
     let at = slice_get_read c.args.links.now _ c.loop-before.before link refl c.loop-before-test.true c.index-links-before.is in
     let x = get-inside kept link.from c.in_err-list.ensures.there in
     let q = err_from_is_err_and c.from_residual.result c.from_residual.ensures.1 in
-    rw (q.1, q.2) (fault-at-link p c.args.self.now.bound c.args.links.now c.loop-before.before link kept x.0 at i.lists x.1 f (subst (λ r. IsVisitCause r link.action x.0 f) i.problem (c.in_err-list.ensures.fault x.0 x.1)))
+    rw (q.1, q.2) (fault-at-link p c.args.self.now.bound c.args.links.now c.loop-before.before link kept x.0 at i.lists x.1 f
+    (subst (λ r. IsVisitCause r link.action x.0 f) i.problem (c.in_err-list.ensures.fault x.0 x.1)))
 
 pub returns-then-not-branch-clause-listed : goal.returns-then-not-branch-clause-listed
 returns-then-not-branch-clause-listed g c =
@@ -26,8 +27,10 @@ returns-then-not-branch-clause-listed g c =
     let p = g.S.SearchSpace.problem c.args.space.now in
     let link = c.index-links-before.result in
     let at = slice_get_read c.args.links.now _ c.loop-before.before link refl c.loop-before-test.true c.index-links-before.is in
-    first-bad p c.args.self.now.bound c.args.links.now c.loop-before.before link (g.S.SearchSpace.kept c.loop-before.space) (g.S.SearchSpace.kept c.list.new.space) at i.lists
-    (links-over p _ c.args.self.now.bound _ (g.S.SearchSpace.kept c.loop-before.space) (g.S.SearchSpace.kept c.list.new.space) link _ false i.problem i.bound c.if-not-branch.true c.in_ok-list.ensures.listed)
+    first-bad p c.args.self.now.bound c.args.links.now c.loop-before.before link (g.S.SearchSpace.kept c.loop-before.space)
+    (g.S.SearchSpace.kept c.list.new.space) at i.lists
+    (links-over p _ c.args.self.now.bound _ (g.S.SearchSpace.kept c.loop-before.space)
+    (g.S.SearchSpace.kept c.list.new.space) link _ false i.problem i.bound c.if-not-branch.true c.in_ok-list.ensures.listed)
 
 pub loop-before-preserved : goal.loop-before-preserved
 loop-before-preserved g c =
@@ -38,12 +41,15 @@ loop-before-preserved g c =
     let new = g.S.SearchSpace.kept c.list.new.space in
     let link = c.index-links-before.result in
     let at = slice_get_read c.args.links.now _ c.loop-before.before link refl c.loop-before-test.true c.index-links-before.is in
-    let listed : ListsLink p b old new link true = links-over p _ b _ old new link _ true i.problem i.bound c.if-not-branch.false c.in_ok-list.ensures.listed in
+    let listed : ListsLink p b old new link true = links-over p _ b _ old new link _ true i.problem i.bound c.if-not-branch.false
+    c.in_ok-list.ensures.listed in
     record {
       task = c.list.ensures.task ∙ i.task;
       problem = c.list.ensures.problem ∙ i.problem;
       bound = c.list.ensures.bound ∙ i.bound;
       lists = lists-more p b c.args.links.now c.loop-before.before link old new at i.lists listed;
-      ready = subst (λ t. IsRightSoFar t p new c.list.new.self) i.task (subst (λ r. IsRightSoFar (g.S.SearchSpace.task c.loop-before.space) r new c.list.new.self) i.problem (c.in_ok-list.ensures.ready c.if-not-branch.false));
+      ready = subst (λ t. IsRightSoFar t p new c.list.new.self) i.task
+          (subst (λ r. IsRightSoFar (g.S.SearchSpace.task c.loop-before.space) r new c.list.new.self) i.problem
+          (c.in_ok-list.ensures.ready c.if-not-branch.false));
       few = let l = link-length p b old new link listed in omega (arith, l, i.few);
     }

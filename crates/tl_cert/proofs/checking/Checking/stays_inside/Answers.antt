@@ -26,7 +26,9 @@ returns-in-Ok-Fresh-clause-inside g c =
     let old = g.S.SearchSpace.kept c.args.space.now in
     let new = g.S.SearchSpace.kept c.child.new.self in
     let x = get-inside old c.args.at c.requires.at in
-    inside-fresh (g.S.SearchSpace.problem c.args.space.now) c.args.self.now.bound old c.args.at x.0 x.1 c.args.a.now new _ (subst (λ p. AreKept (pair_graph p) new) c.child.ensures.problem c.child.ensures.kept) ((rw c.in-Ok-Fresh.field-0-is at c.in-Ok-Fresh.ensures.arrival) x.0 x.1)
+    inside-fresh (g.S.SearchSpace.problem c.args.space.now) c.args.self.now.bound old c.args.at x.0 x.1 c.args.a.now new _
+    (subst (λ p. AreKept (pair_graph p) new) c.child.ensures.problem c.child.ensures.kept)
+    ((rw c.in-Ok-Fresh.field-0-is at c.in-Ok-Fresh.ensures.arrival) x.0 x.1)
 
 pub returns-in-Ok-Seen-clause-kept : goal.returns-in-Ok-Seen-clause-kept
 returns-in-Ok-Seen-clause-kept g c t =
@@ -40,8 +42,11 @@ returns-in-Ok-Seen-clause-inside g c =
     let old = g.S.SearchSpace.kept c.args.space.now in
     let x = get-inside old c.args.at c.requires.at in
     let h = (rw c.in-Ok-Seen.field-0-is at c.in-Ok-Seen.ensures.arrival) x.0 x.1 in
-    subst (TellsInside p b old c.args.at c.args.a.now) (sym (c.is_no_farther.ensures ∙ ap (λ ds. is_no_farther b (slice_index ds c.args.at) (slice_index ds c.in-Ok-Seen.k)) c.requires.depths))
-    (inside-seen p b old c.args.at x.0 x.1 c.args.a.now _ c.in-Ok-Seen.k (subst (AreKept (pair_graph p)) h.0 (subst (λ q. AreKept (pair_graph q) (g.S.SearchSpace.kept c.child.new.self)) c.child.ensures.problem c.child.ensures.kept)) h)
+    subst (TellsInside p b old c.args.at c.args.a.now) (sym (c.is_no_farther.ensures ∙
+    ap (λ ds. is_no_farther b (slice_index ds c.args.at) (slice_index ds c.in-Ok-Seen.k)) c.requires.depths))
+    (inside-seen p b old c.args.at x.0 x.1 c.args.a.now _ c.in-Ok-Seen.k
+    (subst (AreKept (pair_graph p)) h.0 (subst (λ q. AreKept (pair_graph q) (g.S.SearchSpace.kept c.child.new.self))
+    c.child.ensures.problem c.child.ensures.kept)) h)
 
 pub returns-in-Ok-Pruned-clause-kept : goal.returns-in-Ok-Pruned-clause-kept
 returns-in-Ok-Pruned-clause-kept g c t =
@@ -50,7 +55,8 @@ returns-in-Ok-Pruned-clause-kept g c t =
 
 pub returns-in-Err-clause-fault : goal.returns-in-Err-clause-fault
 returns-in-Err-clause-fault g c = λ x e.
-    visit-told _ c.args.a.now x c.in-Err.fault c.child_fault.result (c.child_fault.ensures.fault x (subst (λ xs. slice_get xs c.args.at ≡ Some x) (sym c.in-Err.ensures.refused) e))
+    visit-told _ c.args.a.now x c.in-Err.fault c.child_fault.result (c.child_fault.ensures.fault x
+    (subst (λ xs. slice_get xs c.args.at ≡ Some x) (sym c.in-Err.ensures.refused) e))
     (c.in-Err.ensures.cause x e)
 
 pub returns-in-Err-clause-path_named : goal.returns-in-Err-clause-path_named

@@ -8,7 +8,8 @@ returns-in-Any-clause-none c =
 
 pub returns-in-Any-clause-inner : goal.returns-in-Any-clause-inner
 returns-in-Any-clause-inner c =
-    open-some c.args.junction c.args.self.now c.negate.new.self c.args.span c.hull-found.result c.in-Any.is c.negate.ensures c.hull-found.ensures.hull
+    open-some c.args.junction c.args.self.now c.negate.new.self c.args.span c.hull-found.result c.in-Any.is c.negate.ensures
+    c.hull-found.ensures.hull
 
 pub returns-in-Any-clause-same : goal.returns-in-Any-clause-same
 returns-in-Any-clause-same c =

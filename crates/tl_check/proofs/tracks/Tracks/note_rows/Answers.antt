@@ -20,9 +20,12 @@ loop-k-preserved c =
     let room : k < length rows = omega arith in
     record {
       covered = c.in_ok-note.ensures.covered;
-      noted = noted-more c.args.pred 0 (λ a. true) (line_in c.args.self.now.lines) (λ a. Among a (take k rows)) (λ a. Among a (take (k + 1) rows)) (line_in c.loop-k.self.lines) (line_in c.note.new.self.lines) c.row.result.now (record { at = 0; truth = true }) refl refl
+      noted = noted-more c.args.pred 0 (λ a. true) (line_in c.args.self.now.lines) (λ a. Among a (take k rows))
+          (λ a. Among a (take (k + 1) rows)) (line_in c.loop-k.self.lines) (line_in c.note.new.self.lines) c.row.result.now
+          (record { at = 0; truth = true }) refl refl
           (λ a. taken-more rows k c.row.result.now a room c.row.ensures) c.loop-k.invariant.noted
-          (subst (λ (f : Fact). TellsTruth f (record { at = 0; truth = true }) (line_in c.loop-k.self.lines) (line_in c.note.new.self.lines)) c.in_ok-fact.ensures c.in_ok-note.ensures.told);
+          (subst (λ (f : Fact). TellsTruth f (record { at = 0; truth = true }) (line_in c.loop-k.self.lines)
+          (line_in c.note.new.self.lines)) c.in_ok-fact.ensures c.in_ok-note.ensures.told);
     }
 
 pub returns-clause-noted : goal.returns-clause-noted
@@ -30,4 +33,5 @@ returns-clause-noted c =
     let rows = c.args.rows.now in
     let k = c.loop-k.k in
     let done : length rows ≤ k = omega arith in
-    subst (λ (rs : List (List Value)). AreNoted c.args.pred 0 (λ a. true) (λ a. Among a rs) (line_in c.args.self.now.lines) (line_in c.loop-k.self.lines)) (taken-all rows k done) c.loop-k.invariant.noted
+    subst (λ (rs : List (List Value)). AreNoted c.args.pred 0 (λ a. true) (λ a. Among a rs) (line_in c.args.self.now.lines)
+    (line_in c.loop-k.self.lines)) (taken-all rows k done) c.loop-k.invariant.noted

@@ -9,6 +9,7 @@ returns-clause-adds c = adds-one c.args.self.now (record { entries = c.insert.ne
 
 pub returns-clause-len : goal.returns-clause-len
 returns-clause-len c =
-    let new : c.in_ok-insert.field-0 ≡ true = c.in_ok-insert.ensures.added ∙ (let f : is_listed c.args.self.now c.args.entry ≡ false = c.requires in ap not f) in
+    let new : c.in_ok-insert.field-0 ≡ true = c.in_ok-insert.ensures.added ∙
+    (let f : is_listed c.args.self.now c.args.entry ≡ false = c.requires in ap not f) in
     let P : Bool → Type 0 = λ b. length c.insert.new.self.keys ≡ length c.args.self.now.entries.keys + (if b then 1 else 0) in
     subst P new c.in_ok-insert.ensures.len

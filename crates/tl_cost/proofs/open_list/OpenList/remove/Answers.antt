@@ -9,6 +9,7 @@ returns-clause-drops c = drops-one c.args.self.now (record { entries = c.remove.
 
 pub returns-clause-len : goal.returns-clause-len
 returns-clause-len c =
-    let there : c.remove.result ≡ true = c.remove.ensures.test ∙ (let f : is_listed c.args.self.now c.args.entry ≡ true = c.requires in f) in
+    let there : c.remove.result ≡ true = c.remove.ensures.test ∙ (let f : is_listed c.args.self.now c.args.entry ≡ true = c.requires in f)
+    in
     let P : Bool → Type 0 = λ b. length c.remove.new.self.keys + (if b then 1 else 0) ≡ length c.args.self.now.entries.keys in
     subst P there c.remove.ensures.len

@@ -11,7 +11,8 @@ first-if : (old : OpenList) (o : Option Entry) → IfSome o (IsLowerBound entry_
 first-if old None h = tt
 first-if old (Some e) h = first-one old e h
 
-drops-if : (old new : OpenList) (o : Option Entry) → IfSome o (λ e. Updates entry_cmp old.entries new.entries e false) → IfSome o (Drops (is_listed old) (is_listed new))
+drops-if : (old new : OpenList) (o : Option Entry) → IfSome o (λ e. Updates entry_cmp old.entries new.entries e false) →
+    IfSome o (Drops (is_listed old) (is_listed new))
 drops-if old new None h = tt
 drops-if old new (Some e) h = drops-one old new e h
 

@@ -4,7 +4,8 @@ use Rattle.tl_cost.specs.Outcomes.{IsCheapestOutcome}
 use Rattle.tl_cost.specs.Ticks.{TicksTurn}
 use Rattle.tl_cost.specs.declared.ways.Found.{Found}
 use Rattle.tl_cost.proofs.Expanding.{turn-same}
-use Rattle.tl_cost.proofs.Searching.{between-none, between-few, between-settles, between-unsettled, between-stay, turn-settled, turns-fall, counted-ticked}
+use Rattle.tl_cost.proofs.Searching.{between-none, between-few, between-settles, between-unsettled, between-stay, turn-settled, turns-fall}
+use Rattle.tl_cost.proofs.Searching.{counted-ticked}
 use Rattle.tl_cost.proofs.Ticking.{ticked-turn, counted-turn}
 use Rattle.tl_cost.proofs.turn.UniformCost.all_turns.Goals as goal
 
@@ -13,8 +14,10 @@ settle-requires g c =
     let i = c.loop-next.invariant in
     let next = c.in-Some.next in
     record {
-      turn = turn-same _ _ _ _ c.args.self.now.costs.now c.args.self.now.nodes (g.S.SearchSpace.kept c.loop-next.space) _ (record { ways = c.loop-next.found.ways; open_list = c.take_first.new.self }) next.number _ i.problem i.task refl
-          (between-settles _ _ _ _ _ c.loop-next.found i.between next c.take_first.new.self c.in-Some.ensures.member c.in-Some.ensures.drops c.in-Some.ensures.first c.in-Some.ensures.len);
+      turn = turn-same _ _ _ _ c.args.self.now.costs.now c.args.self.now.nodes (g.S.SearchSpace.kept c.loop-next.space) _
+          (record { ways = c.loop-next.found.ways; open_list = c.take_first.new.self }) next.number _ i.problem i.task refl
+          (between-settles _ _ _ _ _ c.loop-next.found i.between next c.take_first.new.self c.in-Some.ensures.member c.in-Some.ensures.drops
+          c.in-Some.ensures.first c.in-Some.ensures.len);
       nodes = c.requires.nodes;
     }
 
@@ -26,17 +29,25 @@ loop-next-preserved g c =
     let t = g.S.SearchSpace.task c.args.space.now in
     let popped : Found = record { ways = c.loop-next.found.ways; open_list = c.take_first.new.self } in
     let told = rw c.in-None.is at c.in_ok-outcome.ensures in
-    let turn = between-settles _ _ _ _ _ c.loop-next.found i.between next c.take_first.new.self c.in-Some.ensures.member c.in-Some.ensures.drops c.in-Some.ensures.first c.in-Some.ensures.len in
+    let turn = between-settles _ _ _ _ _ c.loop-next.found i.between next c.take_first.new.self c.in-Some.ensures.member
+    c.in-Some.ensures.drops c.in-Some.ensures.first c.in-Some.ensures.len in
     record {
       task = c.settle.ensures.task ∙ i.task;
       problem = c.settle.ensures.problem ∙ i.problem;
-      between = subst (λ q. IsBetweenTurns q t c.args.self.now.costs.now c.args.self.now.nodes (g.S.SearchSpace.kept c.settle.new.space) c.settle.new.found) i.problem
-          (subst (λ u. IsBetweenTurns (g.S.SearchSpace.problem c.loop-next.space) u c.args.self.now.costs.now c.args.self.now.nodes (g.S.SearchSpace.kept c.settle.new.space) c.settle.new.found) i.task told.outcome);
-      counted = λ from h. counted-turn p from (g.S.SearchSpace.kept c.loop-next.space) (g.S.SearchSpace.kept c.settle.new.space) c.loop-next.found c.loop-next.steps c.settle.new.steps next.number c.settle.ensures.grows (i.counted from h)
-          (between-unsettled _ _ _ _ _ c.loop-next.found i.between next c.take_first.new.self c.in-Some.ensures.member c.in-Some.ensures.drops)
-          (subst (λ q. TicksTurn q (g.S.SearchSpace.kept c.settle.new.space) next.number c.loop-next.steps c.settle.new.steps) i.problem c.settle.ensures.ticks)
+      between = subst (λ q. IsBetweenTurns q t c.args.self.now.costs.now c.args.self.now.nodes
+          (g.S.SearchSpace.kept c.settle.new.space) c.settle.new.found) i.problem
+          (subst (λ u. IsBetweenTurns (g.S.SearchSpace.problem c.loop-next.space) u c.args.self.now.costs.now c.args.self.now.nodes
+          (g.S.SearchSpace.kept c.settle.new.space) c.settle.new.found) i.task told.outcome);
+      counted = λ from h. counted-turn p from (g.S.SearchSpace.kept c.loop-next.space)
+          (g.S.SearchSpace.kept c.settle.new.space) c.loop-next.found c.loop-next.steps c.settle.new.steps next.number
+          c.settle.ensures.grows (i.counted from h)
+          (between-unsettled _ _ _ _ _ c.loop-next.found i.between next c.take_first.new.self c.in-Some.ensures.member
+          c.in-Some.ensures.drops)
+          (subst (λ q. TicksTurn q (g.S.SearchSpace.kept c.settle.new.space) next.number c.loop-next.steps c.settle.new.steps) i.problem
+          c.settle.ensures.ticks)
           c.settle.new.found
-          (λ k s. c.in_ok-outcome.ensures.stay k (between-stay _ _ _ _ _ c.loop-next.found i.between next c.take_first.new.self c.in-Some.ensures.member c.in-Some.ensures.drops k s))
+          (λ k s. c.in_ok-outcome.ensures.stay k (between-stay _ _ _ _ _ c.loop-next.found i.between next c.take_first.new.self
+          c.in-Some.ensures.member c.in-Some.ensures.drops k s))
           (c.in_ok-outcome.ensures.stay next.number (turn-settled _ _ _ _ _ _ _ _ turn));
     }
 
@@ -45,7 +56,9 @@ loop-next-smaller g c =
     let i = c.loop-next.invariant in
     let popped : Found = record { ways = c.loop-next.found.ways; open_list = c.take_first.new.self } in
     let told = rw c.in-None.is at c.in_ok-outcome.ensures in
-    turns-fall c.args.self.now.nodes (g.S.SearchSpace.kept c.loop-next.space) (g.S.SearchSpace.kept c.settle.new.space) c.loop-next.found popped c.settle.new.found (between-few _ _ _ _ _ c.loop-next.found i.between) c.in-Some.ensures.len told.opens
+    turns-fall c.args.self.now.nodes (g.S.SearchSpace.kept c.loop-next.space)
+    (g.S.SearchSpace.kept c.settle.new.space) c.loop-next.found popped c.settle.new.found
+    (between-few _ _ _ _ _ c.loop-next.found i.between) c.in-Some.ensures.len told.opens
 
 pub loop-next-init : goal.loop-next-init
 loop-next-init g c = record { task = refl; problem = refl; between = c.requires.between; counted = λ from h. h }
@@ -67,17 +80,25 @@ pub returns-in_err-outcome-clause-steps : goal.returns-in_err-outcome-clause-ste
 returns-in_err-outcome-clause-steps g c from h =
     let i = c.loop-next.invariant in
     let next = c.in-Some.next in
-    ticked-turn (g.S.SearchSpace.problem c.args.space.now) from (g.S.SearchSpace.kept c.loop-next.space) (g.S.SearchSpace.kept c.settle.new.space) c.loop-next.found c.loop-next.steps c.settle.new.steps next.number c.settle.ensures.grows (i.counted from h)
+    ticked-turn (g.S.SearchSpace.problem c.args.space.now) from (g.S.SearchSpace.kept c.loop-next.space)
+    (g.S.SearchSpace.kept c.settle.new.space) c.loop-next.found c.loop-next.steps c.settle.new.steps next.number c.settle.ensures.grows
+    (i.counted from h)
     (between-unsettled _ _ _ _ _ c.loop-next.found i.between next c.take_first.new.self c.in-Some.ensures.member c.in-Some.ensures.drops)
-    (subst (λ q. TicksTurn q (g.S.SearchSpace.kept c.settle.new.space) next.number c.loop-next.steps c.settle.new.steps) i.problem c.settle.ensures.ticks)
+    (subst (λ q. TicksTurn q (g.S.SearchSpace.kept c.settle.new.space) next.number c.loop-next.steps c.settle.new.steps) i.problem
+    c.settle.ensures.ticks)
 
 pub returns-in-Some-2-clause-steps : goal.returns-in-Some-2-clause-steps
 returns-in-Some-2-clause-steps g c from h =
     let i = c.loop-next.invariant in
     let next = c.in-Some.next in
-    ticked-turn (g.S.SearchSpace.problem c.args.space.now) from (g.S.SearchSpace.kept c.loop-next.space) (g.S.SearchSpace.kept c.settle.new.space) c.loop-next.found c.loop-next.steps c.settle.new.steps next.number c.settle.ensures.grows (i.counted from h)
+    ticked-turn (g.S.SearchSpace.problem c.args.space.now) from (g.S.SearchSpace.kept c.loop-next.space)
+    (g.S.SearchSpace.kept c.settle.new.space) c.loop-next.found c.loop-next.steps c.settle.new.steps next.number c.settle.ensures.grows
+    (i.counted from h)
     (between-unsettled _ _ _ _ _ c.loop-next.found i.between next c.take_first.new.self c.in-Some.ensures.member c.in-Some.ensures.drops)
-    (subst (λ q. TicksTurn q (g.S.SearchSpace.kept c.settle.new.space) next.number c.loop-next.steps c.settle.new.steps) i.problem c.settle.ensures.ticks)
+    (subst (λ q. TicksTurn q (g.S.SearchSpace.kept c.settle.new.space) next.number c.loop-next.steps c.settle.new.steps) i.problem
+    c.settle.ensures.ticks)
 
 pub returns-in-Some-2-clause-outcome : goal.returns-in-Some-2-clause-outcome
-returns-in-Some-2-clause-outcome g c = subst (λ p. IsCheapestOutcome p c.args.self.now.costs.now c.args.self.now.nodes (g.S.SearchSpace.kept c.settle.new.space) c.in-Some-2.outcome) c.loop-next.invariant.problem (rw c.in-Some-2.is at c.in_ok-outcome.ensures.outcome)
+returns-in-Some-2-clause-outcome g c = subst (λ p. IsCheapestOutcome p c.args.self.now.costs.now c.args.self.now.nodes
+    (g.S.SearchSpace.kept c.settle.new.space) c.in-Some-2.outcome) c.loop-next.invariant.problem
+    (rw c.in-Some-2.is at c.in_ok-outcome.ensures.outcome)

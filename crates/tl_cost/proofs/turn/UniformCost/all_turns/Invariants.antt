@@ -9,8 +9,10 @@ abbrev pub invariant-loop-next : goal.invariant-loop-next
 invariant-loop-next g l = record {
   task : g.S.SearchSpace.task l.space ≡ g.S.SearchSpace.task l.fn.space;
   problem : g.S.SearchSpace.problem l.space ≡ g.S.SearchSpace.problem l.fn.space;
-  between : IsBetweenTurns (g.S.SearchSpace.problem l.fn.space) (g.S.SearchSpace.task l.fn.space) l.self.costs.now l.self.nodes (g.S.SearchSpace.kept l.space) l.found;
-  counted : (from : ℕ) → IsCounted (g.S.SearchSpace.problem l.fn.space) from (g.S.SearchSpace.kept l.fn.space) l.fn.found l.fn.steps → IsCounted (g.S.SearchSpace.problem l.fn.space) from (g.S.SearchSpace.kept l.space) l.found l.steps;
+  between : IsBetweenTurns (g.S.SearchSpace.problem l.fn.space) (g.S.SearchSpace.task l.fn.space) l.self.costs.now l.self.nodes
+      (g.S.SearchSpace.kept l.space) l.found;
+  counted : (from : ℕ) → IsCounted (g.S.SearchSpace.problem l.fn.space) from (g.S.SearchSpace.kept l.fn.space) l.fn.found l.fn.steps →
+      IsCounted (g.S.SearchSpace.problem l.fn.space) from (g.S.SearchSpace.kept l.space) l.found l.steps;
 }
 
 -- how many pairs may still be settled

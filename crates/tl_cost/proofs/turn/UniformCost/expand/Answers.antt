@@ -20,11 +20,16 @@ arrive-requires g c =
     let e = slice_get_read _ _ c.loop-a.a-index c.a-item.result refl c.loop-a-test.true c.a-item.is in
     let new = g.S.SearchSpace.kept c.loop-a.space in
     record {
-      turn = subst (λ p. HasAction p (g.S.SearchSpace.task c.loop-a.space) c.args.self.now.costs.now c.args.self.now.nodes new c.loop-a.found c.args.at c.a-item.result) (sym i.problem)
-          (subst (λ t. HasAction (g.S.SearchSpace.problem c.args.space.now) t c.args.self.now.costs.now c.args.self.now.nodes new c.loop-a.found c.args.at c.a-item.result) (sym i.task)
+      turn = subst (λ p. HasAction p (g.S.SearchSpace.task c.loop-a.space) c.args.self.now.costs.now c.args.self.now.nodes new
+          c.loop-a.found c.args.at c.a-item.result) (sym i.problem)
+          (subst (λ t. HasAction (g.S.SearchSpace.problem c.args.space.now) t c.args.self.now.costs.now c.args.self.now.nodes new
+          c.loop-a.found c.args.at c.a-item.result) (sym i.task)
           (record { rest = _; turn = turn-next _ _ _ _ _ _ _ items c.loop-a.a-index i.turn c.a-item.result e }));
-      executable = subst (λ p. IsExecutableAt p new c.args.at c.a-item.result) (sym i.problem) (listed-executable _ _ new c.args.at c.loop-a.a-index c.a-item.result items r.pair r.is_at.pair i.grows i.lists e);
-      named = subst (λ t. IsNamedIn t c.a-item.result) (sym i.task) ((Each-Among (IsNamedIn (g.S.SearchSpace.task c.args.space.now)) items).0 i.listed_named c.a-item.result (among-at items c.loop-a.a-index c.a-item.result e));
+      executable = subst (λ p. IsExecutableAt p new c.args.at c.a-item.result) (sym i.problem)
+          (listed-executable _ _ new c.args.at c.loop-a.a-index c.a-item.result items r.pair r.is_at.pair i.grows i.lists e);
+      named = subst (λ t. IsNamedIn t c.a-item.result) (sym i.task) ((Each-Among
+          (IsNamedIn (g.S.SearchSpace.task c.args.space.now)) items).0 i.listed_named c.a-item.result
+          (among-at items c.loop-a.a-index c.a-item.result e));
       nodes = c.requires.nodes;
     }
 
@@ -35,8 +40,11 @@ loop-a-init g c =
       task = c.actions.ensures.task;
       problem = c.actions.ensures.problem;
       listed_named = subst (AreNamedIn (g.S.SearchSpace.task c.args.space.now)) (sym c.as_slice-a-items.ensures) c.in-Ok.ensures.named;
-      lists = λ x e. subst (ListsActions (g.S.SearchSpace.problem c.args.space.now) x.node.world) (sym c.as_slice-a-items.ensures) (c.in-Ok.ensures.actions x e);
-      turn = turn-begins _ _ _ _ _ _ old (g.S.SearchSpace.kept c.actions.new.self) c.as_slice-a-items.result.now c.actions.ensures.kept c.requires.turn c.requires.unaccepted (λ x e. subst (ListsActions (g.S.SearchSpace.problem c.args.space.now) x.node.world) (sym c.as_slice-a-items.ensures) (c.in-Ok.ensures.actions x e));
+      lists = λ x e. subst (ListsActions (g.S.SearchSpace.problem c.args.space.now) x.node.world) (sym c.as_slice-a-items.ensures)
+          (c.in-Ok.ensures.actions x e);
+      turn = turn-begins _ _ _ _ _ _ old (g.S.SearchSpace.kept c.actions.new.self) c.as_slice-a-items.result.now c.actions.ensures.kept
+          c.requires.turn c.requires.unaccepted (λ x e. subst (ListsActions (g.S.SearchSpace.problem c.args.space.now) x.node.world)
+          (sym c.as_slice-a-items.ensures) (c.in-Ok.ensures.actions x e));
       grows = λ k x e. subst (λ xs. slice_get xs k ≡ Some x) (sym c.actions.ensures.kept) e;
       opens = ap (λ xs. length xs + listed_len c.args.found.now.open_list) c.actions.ensures.kept;
       stay = λ k h. h;
@@ -56,11 +64,14 @@ loop-a-preserved g c =
       problem = c.arrive.ensures.problem ∙ i.problem;
       listed_named = i.listed_named;
       lists = i.lists;
-      turn = subst (λ p. IsTriedAt p (g.S.SearchSpace.task c.args.space.now) c.args.self.now.costs.now c.args.self.now.nodes old new c.loop-a.found c.arrive.new.found c.args.at c.a-item.result) i.problem
-          (subst (λ t. IsTriedAt (g.S.SearchSpace.problem c.loop-a.space) t c.args.self.now.costs.now c.args.self.now.nodes old new c.loop-a.found c.arrive.new.found c.args.at c.a-item.result) i.task told.outcome) _
+      turn = subst (λ p. IsTriedAt p (g.S.SearchSpace.task c.args.space.now) c.args.self.now.costs.now c.args.self.now.nodes old new
+          c.loop-a.found c.arrive.new.found c.args.at c.a-item.result) i.problem
+          (subst (λ t. IsTriedAt (g.S.SearchSpace.problem c.loop-a.space) t c.args.self.now.costs.now c.args.self.now.nodes old new
+          c.loop-a.found c.arrive.new.found c.args.at c.a-item.result) i.task told.outcome) _
           (turn-next _ _ _ _ _ _ _ items c.loop-a.a-index i.turn c.a-item.result e);
       grows = λ k x f. c.arrive.ensures.grows k x (i.grows k x f);
-      opens = opens-on (g.S.SearchSpace.kept c.args.space.now) old new c.args.found.now c.loop-a.found c.arrive.new.found i.opens told.opens;
+      opens = opens-on (g.S.SearchSpace.kept c.args.space.now) old new c.args.found.now c.loop-a.found c.arrive.new.found i.opens
+          told.opens;
       stay = λ k h. c.in_ok-arrive.ensures.stay k (i.stay k h);
       ticks = omega (arith, c.arrive.ensures.ticks, i.ticks);
     }
@@ -76,13 +87,15 @@ returns-in-Err-RangeHere g c =
       grows = λ i x e. subst (λ xs. slice_get xs i ≡ Some x) (sym c.actions.ensures.kept) e;
       opens = tt;
       stay = tt;
-      ticks = ticks-none _ (g.S.SearchSpace.kept c.actions.new.self) c.args.at c.args.steps.now t.pair (subst (λ xs. slice_get xs c.args.at ≡ Some t.pair) (sym c.actions.ensures.kept) t.is_at.pair);
+      ticks = ticks-none _ (g.S.SearchSpace.kept c.actions.new.self) c.args.at c.args.steps.now t.pair
+          (subst (λ xs. slice_get xs c.args.at ≡ Some t.pair) (sym c.actions.ensures.kept) t.is_at.pair);
       fault = fault-acting _ _ _ _ _ _ _ _ t c.in-Err-RangeHere.note k.0 c.range_at.result c.range_at.ensures k.1;
       path_named = fault-named _ _ _ _ _ _ _ _ t c.in-Err-RangeHere.note c.range_at.result c.range_at.ensures;
     }
 
 pub unreachable-requires : goal.unreachable-requires
-unreachable-requires g c = (rw c.in-Err-RangeAfter.field-0-is at c.in-Err-RangeAfter.ensures.cause) c.requires.turn.pair c.requires.turn.is_at.pair
+unreachable-requires g c = (rw c.in-Err-RangeAfter.field-0-is at c.in-Err-RangeAfter.ensures.cause) c.requires.turn.pair
+    c.requires.turn.is_at.pair
 
 pub returns : goal.returns
 returns g c =
@@ -95,7 +108,8 @@ returns g c =
       grows = i.grows;
       opens = i.opens;
       stay = i.stay;
-      ticks = ticks-listed _ _ (g.S.SearchSpace.kept c.loop-a.space) c.args.at c.args.steps.now c.loop-a.steps c.loop-a.a-index r.pair c.as_slice-a-items.result.now r.is_at.pair i.grows (i.lists r.pair r.is_at.pair) c.loop-a.auto.a-index-end i.ticks;
+      ticks = ticks-listed _ _ (g.S.SearchSpace.kept c.loop-a.space) c.args.at c.args.steps.now c.loop-a.steps c.loop-a.a-index r.pair
+          c.as_slice-a-items.result.now r.is_at.pair i.grows (i.lists r.pair r.is_at.pair) c.loop-a.auto.a-index-end i.ticks;
       fault = tt;
       path_named = tt;
     }
@@ -106,16 +120,23 @@ range_at-requires-clause-linked g c = turn-linked _ _ _ _ _ _ _ _ c.requires.tur
 pub returns-in-Err-NoMemory-clause-ticks : goal.returns-in-Err-NoMemory-clause-ticks
 returns-in-Err-NoMemory-clause-ticks g c =
     let t = c.requires.turn in
-    ticks-none _ (g.S.SearchSpace.kept c.actions.new.self) c.args.at c.args.steps.now t.pair (subst (λ xs. slice_get xs c.args.at ≡ Some t.pair) (sym c.actions.ensures.kept) t.is_at.pair)
+    ticks-none _ (g.S.SearchSpace.kept c.actions.new.self) c.args.at c.args.steps.now t.pair
+    (subst (λ xs. slice_get xs c.args.at ≡ Some t.pair) (sym c.actions.ensures.kept) t.is_at.pair)
 
 pub returns-in_err-arrive-clause-ticks : goal.returns-in_err-arrive-clause-ticks
 returns-in_err-arrive-clause-ticks g c =
     let i = c.loop-a.invariant in
     let r = c.requires.turn in
-    ticks-listed _ (g.S.SearchSpace.kept c.args.space.now) (g.S.SearchSpace.kept c.arrive.new.space) c.args.at c.args.steps.now c.arrive.new.steps (c.loop-a.a-index + 1) r.pair c.as_slice-a-items.result.now r.is_at.pair (λ k x f. c.arrive.ensures.grows k x (i.grows k x f)) (i.lists r.pair r.is_at.pair) (omega (arith, c.loop-a-test.true)) (omega (arith, c.arrive.ensures.ticks, i.ticks))
+    ticks-listed _ (g.S.SearchSpace.kept c.args.space.now) (g.S.SearchSpace.kept c.arrive.new.space) c.args.at c.args.steps.now
+    c.arrive.new.steps (c.loop-a.a-index + 1) r.pair c.as_slice-a-items.result.now r.is_at.pair
+    (λ k x f. c.arrive.ensures.grows k x (i.grows k x f)) (i.lists r.pair r.is_at.pair) (omega (arith, c.loop-a-test.true))
+    (omega (arith, c.arrive.ensures.ticks, i.ticks))
 
 pub returns-then-branch-clause-ticks : goal.returns-then-branch-clause-ticks
 returns-then-branch-clause-ticks g c =
     let i = c.loop-a.invariant in
     let r = c.requires.turn in
-    ticks-listed _ (g.S.SearchSpace.kept c.args.space.now) (g.S.SearchSpace.kept c.arrive.new.space) c.args.at c.args.steps.now c.arrive.new.steps (c.loop-a.a-index + 1) r.pair c.as_slice-a-items.result.now r.is_at.pair (λ k x f. c.arrive.ensures.grows k x (i.grows k x f)) (i.lists r.pair r.is_at.pair) (omega (arith, c.loop-a-test.true)) (omega (arith, c.arrive.ensures.ticks, i.ticks))
+    ticks-listed _ (g.S.SearchSpace.kept c.args.space.now) (g.S.SearchSpace.kept c.arrive.new.space) c.args.at c.args.steps.now
+    c.arrive.new.steps (c.loop-a.a-index + 1) r.pair c.as_slice-a-items.result.now r.is_at.pair
+    (λ k x f. c.arrive.ensures.grows k x (i.grows k x f)) (i.lists r.pair r.is_at.pair) (omega (arith, c.loop-a-test.true))
+    (omega (arith, c.arrive.ensures.ticks, i.ticks))

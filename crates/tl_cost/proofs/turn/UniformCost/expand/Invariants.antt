@@ -13,8 +13,10 @@ invariant-loop-a g l = record {
   task : g.S.SearchSpace.task l.space ≡ g.S.SearchSpace.task l.fn.space;
   problem : g.S.SearchSpace.problem l.space ≡ g.S.SearchSpace.problem l.fn.space;
   listed_named : AreNamedIn (g.S.SearchSpace.task l.fn.space) l.a-items;
-  lists : (x : KeptPair) → slice_get (g.S.SearchSpace.kept l.fn.space) l.at ≡ Some x → ListsActions (g.S.SearchSpace.problem l.fn.space) x.node.world l.a-items;
-  turn : IsInTurn (g.S.SearchSpace.problem l.fn.space) (g.S.SearchSpace.task l.fn.space) l.self.costs.now l.self.nodes (g.S.SearchSpace.kept l.space) l.found l.at (Some (drop l.a-index l.a-items));
+  lists : (x : KeptPair) → slice_get (g.S.SearchSpace.kept l.fn.space) l.at ≡ Some x →
+      ListsActions (g.S.SearchSpace.problem l.fn.space) x.node.world l.a-items;
+  turn : IsInTurn (g.S.SearchSpace.problem l.fn.space) (g.S.SearchSpace.task l.fn.space) l.self.costs.now l.self.nodes
+      (g.S.SearchSpace.kept l.space) l.found l.at (Some (drop l.a-index l.a-items));
   grows : Extends (g.S.SearchSpace.kept l.fn.space) (g.S.SearchSpace.kept l.space);
   opens : OpensAsMany (g.S.SearchSpace.kept l.fn.space) (g.S.SearchSpace.kept l.space) l.fn.found l.found;
   stay : StaySettled l.fn.found l.found;

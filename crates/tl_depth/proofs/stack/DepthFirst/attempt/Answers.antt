@@ -32,53 +32,79 @@ returns-in-Some-clause-calls g c calls s =
 pub returns-in-Some-clause-arrived : goal.returns-in-Some-clause-arrived
 returns-in-Some-clause-arrived g c calls s =
     let r = reads-some _ _ _ c.args.left _ c.requires.top c.as_slice.ensures.value c.as_slice-2.ensures.value c.index-as_slice-top.is in
-    let came = c.in-Some.ensures (g.S.SearchSpace.problem c.args.space.now) (g.S.SearchSpace.task c.args.space.now) (g.S.SearchSpace.kept c.args.space.now) c.requires.remembered.expansions in
-    arrives-top _ _ _ _ calls s r.1.level.front c.index-as_slice-top.result r.1.level.is r.0 r.1.at_action c.report.new.self _ c.in-Some.known _ c.report.ensures.rest
+    let came = c.in-Some.ensures (g.S.SearchSpace.problem c.args.space.now) (g.S.SearchSpace.task c.args.space.now)
+    (g.S.SearchSpace.kept c.args.space.now) c.requires.remembered.expansions in
+    arrives-top _ _ _ _ calls s r.1.level.front c.index-as_slice-top.result r.1.level.is r.0 r.1.at_action c.report.new.self _
+    c.in-Some.known _ c.report.ensures.rest
     (c.in_ok-report.ensures.told r.1.level.front c.index-as_slice-top.result r.0 r.1.level.is r.1.at_action) r.1.remaining
-    (child-as-pairs _ _ _ _ _ _ c.in-Some.known c.requires.remembered.kept_rightly (replayed (g.S.SearchSpace.problem c.args.space.now) c.args.nodes (g.S.SearchSpace.kept c.args.space.now) c.args.self.now calls s r.1.level.front c.index-as_slice-top.result r.1.level.is r.0 r.1.at_action c.in-Some.known came))
+    (child-as-pairs _ _ _ _ _ _ c.in-Some.known c.requires.remembered.kept_rightly
+    (replayed (g.S.SearchSpace.problem c.args.space.now) c.args.nodes
+    (g.S.SearchSpace.kept c.args.space.now) c.args.self.now calls s r.1.level.front c.index-as_slice-top.result r.1.level.is r.0
+    r.1.at_action c.in-Some.known came))
 
 pub returns-in-Some-clause-history : goal.returns-in-Some-clause-history
 returns-in-Some-clause-history g c s =
     let r = reads-some _ _ _ c.args.left _ c.requires.top c.as_slice.ensures.value c.as_slice-2.ensures.value c.index-as_slice-top.is in
     let x = now-pair _ _ (g.S.SearchSpace.kept c.args.space.now) _ c.requires.ongoing.0 _ c.args.left _ _ c.requires.ongoing.1 r.1 in
-    let came = c.in-Some.ensures (g.S.SearchSpace.problem c.args.space.now) (g.S.SearchSpace.task c.args.space.now) (g.S.SearchSpace.kept c.args.space.now) c.requires.remembered.expansions in
-    history-more _ _ (g.S.SearchSpace.kept c.args.space.now) (g.S.SearchSpace.kept c.args.space.now) c.index-as_slice-top.result.at x.0 r.0 c.in-Some.known _ c.report.new.self.events s x.1
-    (replayed (g.S.SearchSpace.problem c.args.space.now) c.args.nodes (g.S.SearchSpace.kept c.args.space.now) c.args.self.now c.requires.ongoing.0 c.requires.ongoing.1 r.1.level.front c.index-as_slice-top.result r.1.level.is r.0 r.1.at_action c.in-Some.known came x.0 x.1)
-    c.requires.remembered.kept_rightly (c.in_ok-report.ensures.told r.1.level.front c.index-as_slice-top.result r.0 r.1.level.is r.1.at_action)
+    let came = c.in-Some.ensures (g.S.SearchSpace.problem c.args.space.now) (g.S.SearchSpace.task c.args.space.now)
+    (g.S.SearchSpace.kept c.args.space.now) c.requires.remembered.expansions in
+    history-more _ _ (g.S.SearchSpace.kept c.args.space.now) (g.S.SearchSpace.kept c.args.space.now) c.index-as_slice-top.result.at x.0 r.0
+    c.in-Some.known _ c.report.new.self.events s x.1
+    (replayed (g.S.SearchSpace.problem c.args.space.now) c.args.nodes (g.S.SearchSpace.kept c.args.space.now) c.args.self.now
+    c.requires.ongoing.0 c.requires.ongoing.1 r.1.level.front c.index-as_slice-top.result r.1.level.is r.0 r.1.at_action c.in-Some.known
+    came x.0 x.1)
+    c.requires.remembered.kept_rightly (c.in_ok-report.ensures.told r.1.level.front c.index-as_slice-top.result r.0 r.1.level.is
+    r.1.at_action)
 
 pub returns-in-Some-clause-ends : goal.returns-in-Some-clause-ends
 returns-in-Some-clause-ends g c =
     let r = reads-some _ _ _ c.args.left _ c.requires.top c.as_slice.ensures.value c.as_slice-2.ensures.value c.index-as_slice-top.is in
     let x = now-pair _ _ (g.S.SearchSpace.kept c.args.space.now) _ c.requires.ongoing.0 _ c.args.left _ _ c.requires.ongoing.1 r.1 in
-    let came = c.in-Some.ensures (g.S.SearchSpace.problem c.args.space.now) (g.S.SearchSpace.task c.args.space.now) (g.S.SearchSpace.kept c.args.space.now) c.requires.remembered.expansions in
-    keeps-last _ (g.S.SearchSpace.kept c.args.space.now) (g.S.SearchSpace.kept c.args.space.now) c.index-as_slice-top.result.at r.0 _ _ c.in-Some.known _ c.report.new.self.events
-    (replayed (g.S.SearchSpace.problem c.args.space.now) c.args.nodes (g.S.SearchSpace.kept c.args.space.now) c.args.self.now c.requires.ongoing.0 c.requires.ongoing.1 r.1.level.front c.index-as_slice-top.result r.1.level.is r.0 r.1.at_action c.in-Some.known came x.0 x.1)
+    let came = c.in-Some.ensures (g.S.SearchSpace.problem c.args.space.now) (g.S.SearchSpace.task c.args.space.now)
+    (g.S.SearchSpace.kept c.args.space.now) c.requires.remembered.expansions in
+    keeps-last _ (g.S.SearchSpace.kept c.args.space.now) (g.S.SearchSpace.kept c.args.space.now) c.index-as_slice-top.result.at r.0 _ _
+    c.in-Some.known _ c.report.new.self.events
+    (replayed (g.S.SearchSpace.problem c.args.space.now) c.args.nodes (g.S.SearchSpace.kept c.args.space.now) c.args.self.now
+    c.requires.ongoing.0 c.requires.ongoing.1 r.1.level.front c.index-as_slice-top.result r.1.level.is r.0 r.1.at_action c.in-Some.known
+    came x.0 x.1)
     (c.in_ok-report.ensures.told r.1.level.front c.index-as_slice-top.result r.0 r.1.level.is r.1.at_action)
 
 pub returns-in-Some-clause-named : goal.returns-in-Some-clause-named
 returns-in-Some-clause-named g c =
     let r = reads-some _ _ _ c.args.left _ c.requires.top c.as_slice.ensures.value c.as_slice-2.ensures.value c.index-as_slice-top.is in
-    let k = stack-split (g.S.SearchSpace.task c.args.space.now) c.args.self.now.stack.items r.1.level.front c.index-as_slice-top.result r.1.level.is c.requires.named.stack in
+    let k = stack-split (g.S.SearchSpace.task c.args.space.now) c.args.self.now.stack.items r.1.level.front c.index-as_slice-top.result
+    r.1.level.is c.requires.named.stack in
     record {
-      stack = subst (λ (w : DepthFirst). StackIsNamed (g.S.SearchSpace.task c.args.space.now) w.stack.items) (sym c.report.ensures.rest) c.requires.named.stack;
-      events = events-named (g.S.SearchSpace.task c.args.space.now) c.args.self.now.watch c.args.self.now.events c.report.new.self.events _ c.requires.named.events
-          (event-named (g.S.SearchSpace.task c.args.space.now) c.index-as_slice-top.result.at r.0 c.in-Some.known ((Each-Among (IsNamedIn (g.S.SearchSpace.task c.args.space.now)) c.index-as_slice-top.result.actions).0 k.1 r.0 (among-at c.index-as_slice-top.result.actions c.index-as_slice-top.result.tried r.0 r.1.at_action)))
+      stack = subst (λ (w : DepthFirst). StackIsNamed (g.S.SearchSpace.task c.args.space.now) w.stack.items)
+          (sym c.report.ensures.rest) c.requires.named.stack;
+      events = events-named (g.S.SearchSpace.task c.args.space.now) c.args.self.now.watch c.args.self.now.events c.report.new.self.events _
+          c.requires.named.events
+          (event-named (g.S.SearchSpace.task c.args.space.now) c.index-as_slice-top.result.at r.0 c.in-Some.known
+          ((Each-Among (IsNamedIn (g.S.SearchSpace.task c.args.space.now)) c.index-as_slice-top.result.actions).0 k.1 r.0
+          (among-at c.index-as_slice-top.result.actions c.index-as_slice-top.result.tried r.0 r.1.at_action)))
           (c.in_ok-report.ensures.told r.1.level.front c.index-as_slice-top.result r.0 r.1.level.is r.1.at_action);
     }
 
 -- ---- what the space answered is remembered
 
 pub returns-clause-arrived : goal.returns-clause-arrived
-returns-clause-arrived g c calls s = as-learnt (g.S.SearchSpace.problem c.args.space.now) c.args.nodes (pairs_of (g.S.SearchSpace.kept c.call.new.space)) c.call.new.self c.remember_arrival.new.self c.in_ok-arrival.arrival c.args.left calls c.remember_arrival.ensures.rest (c.in_ok-arrival.ensures.arrived calls s)
+returns-clause-arrived g c calls s = as-learnt (g.S.SearchSpace.problem c.args.space.now) c.args.nodes
+    (pairs_of (g.S.SearchSpace.kept c.call.new.space)) c.call.new.self c.remember_arrival.new.self c.in_ok-arrival.arrival c.args.left calls
+    c.remember_arrival.ensures.rest (c.in_ok-arrival.ensures.arrived calls s)
 
 pub returns-clause-remembered : goal.returns-clause-remembered
 returns-clause-remembered g c =
     let r = reads-some _ _ _ c.args.left _ c.requires.top c.as_slice.ensures.value c.as_slice-2.ensures.value c.index-as_slice-top.is in
     let new = g.S.SearchSpace.kept c.call.new.space in
-    let before = stay-right (g.S.SearchSpace.problem c.args.space.now) (g.S.SearchSpace.task c.args.space.now) (g.S.SearchSpace.kept c.args.space.now) new c.args.self.now.expansions c.in_ok-arrival.ensures.grows c.requires.remembered.expansions in
+    let before = stay-right (g.S.SearchSpace.problem c.args.space.now) (g.S.SearchSpace.task c.args.space.now)
+    (g.S.SearchSpace.kept c.args.space.now) new c.args.self.now.expansions c.in_ok-arrival.ensures.grows
+    c.requires.remembered.expansions in
     record {
       kept_rightly = c.in_ok-arrival.ensures.kept;
-      expansions = c.in_ok-remember_arrival.ensures.remembered r.1.level.front c.index-as_slice-top.result (ap (λ (w : DepthFirst). w.stack.items) c.call.ensures.rest ∙ r.1.level.is) (g.S.SearchSpace.problem c.args.space.now) (g.S.SearchSpace.task c.args.space.now) new
-          (subst (λ (w : DepthFirst). AreExpansions (g.S.SearchSpace.problem c.args.space.now) (g.S.SearchSpace.task c.args.space.now) new w.expansions) (sym c.call.ensures.rest) before)
+      expansions = c.in_ok-remember_arrival.ensures.remembered r.1.level.front c.index-as_slice-top.result
+          (ap (λ (w : DepthFirst). w.stack.items) c.call.ensures.rest ∙ r.1.level.is) (g.S.SearchSpace.problem c.args.space.now)
+          (g.S.SearchSpace.task c.args.space.now) new
+          (subst (λ (w : DepthFirst). AreExpansions (g.S.SearchSpace.problem c.args.space.now)
+          (g.S.SearchSpace.task c.args.space.now) new w.expansions) (sym c.call.ensures.rest) before)
           (c.in_ok-arrival.ensures.came r.1.level.front c.index-as_slice-top.result r.1.level.is);
     }

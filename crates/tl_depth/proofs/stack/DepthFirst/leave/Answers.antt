@@ -14,7 +14,8 @@ overflow_add-index_mut c =
     let n : length r.0 ≡ suc (length w.0) = some-length _ w.0 w.1 w.2 in
     let e : c.index_mut.result.now ≡ w.1 = at-end _ w.0 w.1 _ _ (f ∙ w.2) (omega (arith, ap length f)) c.index_mut.ensures.value in
     let t : c.index_mut.result.now.tried ≡ w.1.tried = ap (λ (l : Level). l.tried) e in
-    let b = each-last (λ (h : Level). (h.tried < length h.actions) × (length h.actions < 18446744073709551616)) w.0 w.1 (subst (Each (λ (h : Level). (h.tried < length h.actions) × (length h.actions < 18446744073709551616))) w.2 r.3) in
+    let b = each-last (λ (h : Level). (h.tried < length h.actions) × (length h.actions < 18446744073709551616)) w.0 w.1
+    (subst (Each (λ (h : Level). (h.tried < length h.actions) × (length h.actions < 18446744073709551616))) w.2 r.3) in
     omega (arith, b.0, b.1, t)
 
 pub returns-then-len-gt1-clause-root : goal.returns-then-len-gt1-clause-root

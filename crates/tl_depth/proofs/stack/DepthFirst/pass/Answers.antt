@@ -7,7 +7,8 @@ pub overflow_add-index_mut : goal.overflow_add-index_mut
 overflow_add-index_mut c =
     let r = c.requires in
     let s : length c.args.self.now.stack.items ≡ suc (length r.0) = some-length _ r.0 r.1 r.2 in
-    let l : suc (length c.as_slice-len.result.now - 1) ≡ length c.args.self.now.stack.items = omega (arith, ap length c.as_slice-len.ensures.value) in
+    let l : suc (length c.as_slice-len.result.now - 1) ≡ length c.args.self.now.stack.items =
+    omega (arith, ap length c.as_slice-len.ensures.value) in
     let e : c.index_mut.result.now ≡ r.1 = at-end _ r.0 r.1 _ _ r.2 l c.index_mut.ensures.value in
     let t : c.index_mut.result.now.tried ≡ r.1.tried = ap (λ (l : Level). l.tried) e in
     omega (arith, r.3, r.4, t)

@@ -15,7 +15,8 @@ invariant-turns g l = record {
   within : l.self.within ≡ l.fn.self.within;
   watch : l.self.watch ≡ l.fn.self.watch;
   history : IsHistory (g.S.SearchSpace.problem l.space) l.self.watch (g.S.SearchSpace.kept l.space) l.self.events;
-  ongoing : (calls : ℕ) × IsOngoing (g.S.SearchSpace.problem l.space) l.nodes (pairs_of (g.S.SearchSpace.kept l.space)) l.self calls × (calls + l.fn.steps ≡ l.steps);
+  ongoing : (calls : ℕ) × IsOngoing (g.S.SearchSpace.problem l.space) l.nodes (pairs_of (g.S.SearchSpace.kept l.space)) l.self calls ×
+      (calls + l.fn.steps ≡ l.steps);
 }
 
 abbrev pub decreases-turns : goal.decreases-turns

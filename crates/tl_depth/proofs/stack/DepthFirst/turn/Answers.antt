@@ -19,46 +19,69 @@ use Rattle.tl_depth.proofs.stack.DepthFirst.turn.Goals as goal
 
 pub leave-requires : goal.leave-requires
 leave-requires g c =
-    let v = reads-last _ _ _ _ c.requires.some c.as_slice.ensures.value c.as_slice-2.ensures.value c.index-as_slice-top.is in
-    (v.front, c.index-as_slice-top.result, v.is, below-under _ _ _ _ c.requires.ongoing.0 c.requires.ongoing.1 v.front c.index-as_slice-top.result v.is)
+    let v = reads-last _ _ _ _ c.requires.some c.as_slice.ensures.value c.as_slice-2.ensures.value c.index-as_slice-top.is in (
+      v.front,
+      c.index-as_slice-top.result,
+      v.is,
+      below-under _ _ _ _ c.requires.ongoing.0 c.requires.ongoing.1 v.front
+          c.index-as_slice-top.result v.is,
+    )
 
 pub returns-then-len-level-clause-turned : goal.returns-then-len-level-clause-turned
 returns-then-len-level-clause-turned g c calls s =
     let v = reads-last _ _ _ _ c.requires.some c.as_slice.ensures.value c.as_slice-2.ensures.value c.index-as_slice-top.is in
-    let o : length c.index-as_slice-top.result.actions ≤ c.index-as_slice-top.result.tried = omega (arith, c.len.ensures, c.if-len-level.true) in
-    (calls, refl, turned-left _ _ _ _ calls s v.front c.index-as_slice-top.result v.is o c.leave.new.self c.leave.ensures.root c.leave.ensures.stack c.leave.ensures.rest)
+    let o : length c.index-as_slice-top.result.actions ≤ c.index-as_slice-top.result.tried =
+    omega (arith, c.len.ensures, c.if-len-level.true) in (
+      calls,
+      refl,
+      turned-left _ _ _ _ calls s v.front c.index-as_slice-top.result v.is o c.leave.new.self c.leave.ensures.root
+          c.leave.ensures.stack c.leave.ensures.rest,
+    )
 
 pub overflow_sub-left : goal.overflow_sub-left
 overflow_sub-left g c =
     let v = reads-last _ _ _ _ c.requires.some c.as_slice.ensures.value c.as_slice-2.ensures.value c.index-as_slice-top.is in
-    let o : c.index-as_slice-top.result.tried < length c.index-as_slice-top.result.actions = omega (arith, c.len.ensures, c.if-len-level.false) in
+    let o : c.index-as_slice-top.result.tried < length c.index-as_slice-top.result.actions =
+    omega (arith, c.len.ensures, c.if-len-level.false) in
     let a = get-there c.index-as_slice-top.result.actions c.index-as_slice-top.result.tried o in
-    let p : 0 < c.index-as_slice-top.result.left = top-left _ _ _ _ c.requires.ongoing.0 c.requires.ongoing.1 v.front c.index-as_slice-top.result v.is a.0 a.1 in
+    let p : 0 < c.index-as_slice-top.result.left = top-left _ _ _ _ c.requires.ongoing.0 c.requires.ongoing.1 v.front
+    c.index-as_slice-top.result v.is a.0 a.1 in
     omega (arith, p)
 
 pub attempt-requires-clause-top : goal.attempt-requires-clause-top
 attempt-requires-clause-top g c =
     let v = reads-last _ _ _ _ c.requires.some c.as_slice.ensures.value c.as_slice-2.ensures.value c.index-as_slice-top.is in
-    let o : c.index-as_slice-top.result.tried < length c.index-as_slice-top.result.actions = omega (arith, c.len.ensures, c.if-len-level.false) in
+    let o : c.index-as_slice-top.result.tried < length c.index-as_slice-top.result.actions =
+    omega (arith, c.len.ensures, c.if-len-level.false) in
     let a = get-there c.index-as_slice-top.result.actions c.index-as_slice-top.result.tried o in
-    let p : 0 < c.index-as_slice-top.result.left = top-left _ _ _ _ c.requires.ongoing.0 c.requires.ongoing.1 v.front c.index-as_slice-top.result v.is a.0 a.1 in
+    let p : 0 < c.index-as_slice-top.result.left = top-left _ _ _ _ c.requires.ongoing.0 c.requires.ongoing.1 v.front
+    c.index-as_slice-top.result v.is a.0 a.1 in
     (v.front, c.index-as_slice-top.result, v.is, o, omega (arith, p))
 
 pub returns-clause-turned : goal.returns-clause-turned
-returns-clause-turned g c = if-ok c.arrived.result _ _ c.arrived.ensures.turned (λ o h calls s. turned-to _ _ _ _ _ c.args.self.now c.attempt.new.self _ calls _ _ o c.attempt.ensures.rest c.attempt.ensures.problem (sym (ap pairs_of c.arrived.ensures.kept)) c.attempt.ensures.ticks (h calls (as-arrival (sym c.attempt.ensures.problem) refl refl (c.in_ok-arrival.ensures.arrived calls s))))
+returns-clause-turned g c = if-ok c.arrived.result _ _ c.arrived.ensures.turned
+    (λ o h calls s. turned-to _ _ _ _ _ c.args.self.now c.attempt.new.self _ calls _ _ o c.attempt.ensures.rest c.attempt.ensures.problem
+    (sym (ap pairs_of c.arrived.ensures.kept)) c.attempt.ensures.ticks
+    (h calls (as-arrival (sym c.attempt.ensures.problem) refl refl (c.in_ok-arrival.ensures.arrived calls s))))
 
 pub returns-then-len-level-clause-history : goal.returns-then-len-level-clause-history
-returns-then-len-level-clause-history g c s = as-history _ _ _ _ _ _ _ _ refl refl refl (sym (ap (λ (w : DepthFirst). w.events) c.leave.ensures.rest)) s
+returns-then-len-level-clause-history g c s = as-history _ _ _ _ _ _ _ _ refl refl refl
+    (sym (ap (λ (w : DepthFirst). w.events) c.leave.ensures.rest)) s
 
 pub returns-clause-history : goal.returns-clause-history
-returns-clause-history g c = on-ok-if c.arrived.result _ _ c.arrived.ensures.turned (λ o h s. as-history _ _ _ _ _ _ _ _ refl refl (sym c.arrived.ensures.kept) (sym c.arrived.ensures.events) (c.in_ok-arrival.ensures.history s))
+returns-clause-history g c = on-ok-if c.arrived.result _ _ c.arrived.ensures.turned
+    (λ o h s. as-history _ _ _ _ _ _ _ _ refl refl (sym c.arrived.ensures.kept) (sym c.arrived.ensures.events)
+    (c.in_ok-arrival.ensures.history s))
 
 pub returns-clause-ends : goal.returns-clause-ends
 returns-clause-ends g c =
     let w : c.attempt.new.self.watch ≡ c.args.self.now.watch = ap (λ (w : DepthFirst). w.watch) c.attempt.ensures.rest in
     if-ok c.arrived.result _ _ c.arrived.ensures.ends (λ o h.
-    as-ends c.attempt.new.self.watch c.args.self.now.watch (g.S.SearchSpace.kept c.attempt.new.space) (g.S.SearchSpace.kept c.arrived.new.space) c.attempt.new.self.events c.arrived.new.self.events o w (sym c.arrived.ensures.kept) (sym c.arrived.ensures.events)
-    (h (as-keeps c.args.self.now.watch c.attempt.new.self.watch (g.S.SearchSpace.kept c.attempt.new.space) c.attempt.new.self.events c.in_ok-arrival.arrival (sym w) c.in_ok-arrival.ensures.ends)))
+    as-ends c.attempt.new.self.watch c.args.self.now.watch (g.S.SearchSpace.kept c.attempt.new.space)
+    (g.S.SearchSpace.kept c.arrived.new.space) c.attempt.new.self.events c.arrived.new.self.events o w (sym c.arrived.ensures.kept)
+    (sym c.arrived.ensures.events)
+    (h (as-keeps c.args.self.now.watch c.attempt.new.self.watch (g.S.SearchSpace.kept c.attempt.new.space) c.attempt.new.self.events
+    c.in_ok-arrival.arrival (sym w) c.in_ok-arrival.ensures.ends)))
 
 pub returns-then-len-level-clause-calls : goal.returns-then-len-level-clause-calls
 returns-then-len-level-clause-calls g c calls s = (calls, refl, few-made _ _ _ _ calls s)
@@ -67,18 +90,27 @@ pub returns-in_err-arrival-clause-calls : goal.returns-in_err-arrival-clause-cal
 returns-in_err-arrival-clause-calls g c calls s = (calls + 1, omega (arith, c.attempt.ensures.ticks), c.attempt.ensures.calls calls s)
 
 pub returns-clause-calls : goal.returns-clause-calls
-returns-clause-calls g c calls s = (calls + 1, omega (arith, c.attempt.ensures.ticks), few-same _ _ _ _ _ c.arrived.ensures.kept (c.attempt.ensures.calls calls s))
+returns-clause-calls g c calls s = (
+  calls + 1,
+  omega (arith, c.attempt.ensures.ticks),
+  few-same _ _ _ _ _ c.arrived.ensures.kept (c.attempt.ensures.calls calls s),
+)
 
 pub returns-then-len-level-clause-named : goal.returns-then-len-level-clause-named
 returns-then-len-level-clause-named g c =
     let v = reads-last _ _ _ _ c.requires.some c.as_slice.ensures.value c.as_slice-2.ensures.value c.index-as_slice-top.is in
-    search-with (g.S.SearchSpace.task c.args.space.now) c.args.self.now c.leave.new.self (stack-left (g.S.SearchSpace.task c.args.space.now) c.args.self.now.stack.items v.front c.leave.new.self.stack.items c.index-as_slice-top.result v.is c.leave.ensures.root c.leave.ensures.stack c.requires.named.stack) (ap (λ (w : DepthFirst). w.events) c.leave.ensures.rest) c.requires.named
+    search-with (g.S.SearchSpace.task c.args.space.now) c.args.self.now c.leave.new.self
+    (stack-left (g.S.SearchSpace.task c.args.space.now) c.args.self.now.stack.items v.front c.leave.new.self.stack.items
+    c.index-as_slice-top.result v.is c.leave.ensures.root c.leave.ensures.stack c.requires.named.stack)
+    (ap (λ (w : DepthFirst). w.events) c.leave.ensures.rest) c.requires.named
 
 pub arrived-requires-clause-named : goal.arrived-requires-clause-named
-arrived-requires-clause-named g c = subst (λ t. SearchIsNamed t c.attempt.new.self) (sym c.attempt.ensures.task) c.in_ok-arrival.ensures.named
+arrived-requires-clause-named g c = subst (λ t. SearchIsNamed t c.attempt.new.self)
+    (sym c.attempt.ensures.task) c.in_ok-arrival.ensures.named
 
 pub returns-clause-named : goal.returns-clause-named
-returns-clause-named g c = subst (λ t. OnOk c.arrived.result (SearchIsNamed t c.arrived.new.self)) c.attempt.ensures.task c.arrived.ensures.named
+returns-clause-named g c = subst (λ t. OnOk c.arrived.result (SearchIsNamed t c.arrived.new.self)) c.attempt.ensures.task
+    c.arrived.ensures.named
 
 pub returns-clause-plan_named : goal.returns-clause-plan_named
 returns-clause-plan_named g c = subst (λ t. IfOk c.arrived.result (EndIsNamed t)) c.attempt.ensures.task c.arrived.ensures.plan_named
@@ -89,9 +121,12 @@ returns-clause-path_named g c = subst (λ t. IfErr c.arrived.result (FaultIsName
 pub returns-then-len-level-clause-remembered : goal.returns-then-len-level-clause-remembered
 returns-then-len-level-clause-remembered g c =
     let v = reads-last _ _ _ _ c.requires.some c.as_slice.ensures.value c.as_slice-2.ensures.value c.index-as_slice-top.is in
-    let named = (stack-split (g.S.SearchSpace.task c.args.space.now) c.args.self.now.stack.items v.front c.index-as_slice-top.result v.is c.requires.named.stack).1 in
+    let named = (stack-split (g.S.SearchSpace.task c.args.space.now) c.args.self.now.stack.items v.front c.index-as_slice-top.result v.is
+    c.requires.named.stack).1 in
     record {
       kept_rightly = c.requires.remembered.kept_rightly;
-      expansions = c.leave.ensures.remembered v.front c.index-as_slice-top.result v.is (g.S.SearchSpace.problem c.args.space.now) (g.S.SearchSpace.task c.args.space.now) (g.S.SearchSpace.kept c.args.space.now) c.requires.remembered.expansions
-          (top-listed _ _ (g.S.SearchSpace.kept c.args.space.now) _ c.requires.ongoing.0 c.requires.ongoing.1 v.front c.index-as_slice-top.result v.is (g.S.SearchSpace.task c.args.space.now) named);
+      expansions = c.leave.ensures.remembered v.front c.index-as_slice-top.result v.is (g.S.SearchSpace.problem c.args.space.now)
+          (g.S.SearchSpace.task c.args.space.now) (g.S.SearchSpace.kept c.args.space.now) c.requires.remembered.expansions
+          (top-listed _ _ (g.S.SearchSpace.kept c.args.space.now) _ c.requires.ongoing.0 c.requires.ongoing.1 v.front
+          c.index-as_slice-top.result v.is (g.S.SearchSpace.task c.args.space.now) named);
     }

@@ -5,4 +5,5 @@ use Rattle.tl_eval.proofs.env.Env.slots.Goals as goal
 
 pub returns-clause-slots : goal.returns-clause-slots
 returns-clause-slots c =
-    ap (λ (xs : List (Option Value)). length xs) c.frame.ensures ∙ (ap (λ (xs : List (Option Value)). length xs) (sym c.self.view_is) ∙ length-frame c.self.inside.values.items c.self.invariant)
+    ap (λ (xs : List (Option Value)). length xs) c.frame.ensures ∙ (ap (λ (xs : List (Option Value)). length xs) (sym c.self.view_is) ∙
+    length-frame c.self.inside.values.items c.self.invariant)

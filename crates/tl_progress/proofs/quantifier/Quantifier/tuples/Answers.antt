@@ -12,5 +12,7 @@ use Rattle.tl_progress.proofs.quantifier.Quantifier.tuples.Goals as goal
 pub returns-clause-reads : goal.returns-clause-reads
 returns-clause-reads c frame stands =
     let ss = node_vars (trees c.args.nodes.now) c.args.self in
-    subst (λ (b : Bound). ReadsBound (situation_of (plain_problem c.args.task.now.problem) c.args.w.now) ss (assignment_in frame) b c.tuples.result) c.bound.ensures
-    (c.tuples.ensures.reads ss (assignment_in frame) (subst (λ (b : Bound). IsPatternOf ss (assignment_in frame) b c.args.pattern.now) (sym c.bound.ensures) stands))
+    subst (λ (b : Bound). ReadsBound (situation_of (plain_problem c.args.task.now.problem) c.args.w.now) ss
+    (assignment_in frame) b c.tuples.result) c.bound.ensures
+    (c.tuples.ensures.reads ss (assignment_in frame) (subst (λ (b : Bound). IsPatternOf ss (assignment_in frame) b c.args.pattern.now)
+    (sym c.bound.ensures) stands))

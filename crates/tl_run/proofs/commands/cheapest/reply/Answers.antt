@@ -8,4 +8,5 @@ use Rattle.tl_run.proofs.commands.cheapest.reply.Goals as goal
 
 pub returns : goal.returns
 returns c = λ d p k.
-    subst (λ (q : Problem). IfOk c.space_reply-reply.result (Replies (commands.cheapest c.args.nodes d p k) (some_costs q c.args.costs.now))) c.in_ok-space.ensures.problem (c.space_reply-reply.ensures d p k)
+    subst (λ (q : Problem). IfOk c.space_reply-reply.result (Replies (commands.cheapest c.args.nodes d p k)
+    (some_costs q c.args.costs.now))) c.in_ok-space.ensures.problem (c.space_reply-reply.ensures d p k)

@@ -9,4 +9,5 @@ check-requires c = record {
 }
 
 pub returns-in-Ok : goal.returns-in-Ok
-returns-in-Ok c = λ d p q. verdict_replied d p q c.args.task.now.problem c.args.plan.now c.in-Ok.verdict c.verdict_reply.result c.in-Ok.ensures.verdict c.verdict_reply.ensures.status c.verdict_reply.ensures.text
+returns-in-Ok c = λ d p q. verdict_replied d p q c.args.task.now.problem c.args.plan.now c.in-Ok.verdict c.verdict_reply.result
+    c.in-Ok.ensures.verdict c.verdict_reply.ensures.status c.verdict_reply.ensures.text

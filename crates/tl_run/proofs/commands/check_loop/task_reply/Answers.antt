@@ -13,4 +13,5 @@ check_loop-requires c =
     }
 
 pub returns-in-Ok : goal.returns-in-Ok
-returns-in-Ok c = λ d p q. loop_verdict_replied d p q c.args.task.now.problem c.args.plan.now c.in-Ok.verdict c.verdict_reply.result (rw (c.as_slice.ensures, c.as_slice-2.ensures) at c.in-Ok.ensures.verdict) c.verdict_reply.ensures.status c.verdict_reply.ensures.text
+returns-in-Ok c = λ d p q. loop_verdict_replied d p q c.args.task.now.problem c.args.plan.now c.in-Ok.verdict c.verdict_reply.result
+    (rw (c.as_slice.ensures, c.as_slice-2.ensures) at c.in-Ok.ensures.verdict) c.verdict_reply.ensures.status c.verdict_reply.ensures.text

@@ -8,4 +8,5 @@ use Rattle.tl_run.proofs.commands.check_none.reply.Goals as goal
 
 pub returns : goal.returns
 returns c = λ d p q.
-    subst (λ (m : Problem). IfOk c.space_reply-reply.result (Replies (commands.check_none d p q) (a_proof m c.args.proof.now))) c.in_ok-space.ensures.problem (c.space_reply-reply.ensures d p q)
+    subst (λ (m : Problem). IfOk c.space_reply-reply.result (Replies (commands.check_none d p q) (a_proof m c.args.proof.now)))
+    c.in_ok-space.ensures.problem (c.space_reply-reply.ensures d p q)

@@ -8,4 +8,5 @@ use Rattle.tl_run.proofs.commands.plan.reply.Goals as goal
 
 pub returns : goal.returns
 returns c = λ d p.
-    subst (λ (q : Problem). IfOk c.space_reply-reply.result (Replies (commands.search c.args.search d p) (a_problem q))) c.in_ok-space.ensures.problem (c.space_reply-reply.ensures d p)
+    subst (λ (q : Problem). IfOk c.space_reply-reply.result (Replies (commands.search c.args.search d p) (a_problem q)))
+    c.in_ok-space.ensures.problem (c.space_reply-reply.ensures d p)

@@ -7,10 +7,12 @@ use Rattle.tl_run.proofs.NoneReports.{certificate_replied, few_kept, few_links, 
 use Rattle.tl_run.proofs.commands.prove_none.proof_reply.Goals as goal
 
 pub certificate-requires-clause-few : goal.certificate-requires-clause-few
-certificate-requires-clause-few c = few_kept c.args.search (problem_of c.args.space.now) (kept_of c.args.space.now) c.args.report.now c.requires.breadth c.requires.right c.requires.none c.requires.limits
+certificate-requires-clause-few c = few_kept c.args.search (problem_of c.args.space.now)
+    (kept_of c.args.space.now) c.args.report.now c.requires.breadth c.requires.right c.requires.none c.requires.limits
 
 pub certificate-requires-clause-none : goal.certificate-requires-clause-none
-certificate-requires-clause-none c = none_report c.args.search (problem_of c.args.space.now) (kept_of c.args.space.now) c.args.report.now c.requires.breadth c.requires.right c.requires.none
+certificate-requires-clause-none c = none_report c.args.search (problem_of c.args.space.now)
+    (kept_of c.args.space.now) c.args.report.now c.requires.breadth c.requires.right c.requires.none
 
 pub proof_text-requires : goal.proof_text-requires
 proof_text-requires c =
@@ -29,5 +31,7 @@ returns c = λ d p.
     let text = c.in_ok-text.text in
     let line : text ≡ proof_text (task_of c.args.space.now).problem.names (task_of c.args.space.now).problem.domain.operators proof =
     subst (λ (t : Task). text ≡ proof_text t.problem.names t.problem.domain.operators proof) c.task.ensures c.in_ok-text.ensures.text in
-    let few = few_links c.args.search (problem_of c.args.space.now) kept c.args.report.now c.requires.breadth c.requires.right c.requires.none c.requires.limits (length proof.links) made.many in
-    certificate_replied c.args.search d p (task_of c.args.space.now).problem kept c.args.report.now proof text c.requires.right c.requires.none made.covers made.bound made.order few c.in_ok-text.ensures.fits line
+    let few = few_links c.args.search (problem_of c.args.space.now) kept c.args.report.now c.requires.breadth c.requires.right
+    c.requires.none c.requires.limits (length proof.links) made.many in
+    certificate_replied c.args.search d p (task_of c.args.space.now).problem kept c.args.report.now proof text c.requires.right
+    c.requires.none made.covers made.bound made.order few c.in_ok-text.ensures.fits line

@@ -7,4 +7,5 @@ use Rattle.tl_run.specs.Replies.{Replies}
 use Rattle.tl_run.proofs.commands.sample.reply.Goals as goal
 
 pub returns : goal.returns
-returns c = subst (λ (q : Problem). IfOk c.space_reply-reply.result (Replies (commands.sample c.args.balls) (a_problem q))) c.in_ok-space.ensures.problem c.space_reply-reply.ensures
+returns c = subst (λ (q : Problem). IfOk c.space_reply-reply.result (Replies (commands.sample c.args.balls) (a_problem q)))
+    c.in_ok-space.ensures.problem c.space_reply-reply.ensures

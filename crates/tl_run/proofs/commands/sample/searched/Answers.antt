@@ -23,11 +23,13 @@ returns-clause-outcome g c =
 pub returns-clause-near : goal.returns-clause-near
 returns-clause-near g c =
     let search = c.args.search in
-    report_near (problem_of c.args.space.now) search.within search.nodes (pairs_of (kept_of c.search.new.space)) c.search.result c.search.ensures.outcome
+    report_near (problem_of c.args.space.now) search.within search.nodes
+    (pairs_of (kept_of c.search.new.space)) c.search.result c.search.ensures.outcome
 
 pub returns-clause-prefixes : goal.returns-clause-prefixes
 returns-clause-prefixes g c =
     let p = problem_of c.args.space.now in
     let kept = pairs_of (kept_of c.search.new.space) in
     let search = c.args.search in
-    report_prefixes c.pair_goes_on.ensures c.prefixes_are_open.ensures c.action_order_is_total.ensures p search.within search.nodes kept c.search.result c.search.ensures.outcome c.search.ensures.told
+    report_prefixes c.pair_goes_on.ensures c.prefixes_are_open.ensures c.action_order_is_total.ensures p search.within search.nodes kept
+    c.search.result c.search.ensures.outcome c.search.ensures.told

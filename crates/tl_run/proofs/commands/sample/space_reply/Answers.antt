@@ -24,9 +24,12 @@ pub outcome_reply-requires-clause-keeps : goal.outcome_reply-requires-clause-kee
 outcome_reply-requires-clause-keeps c =
     let o = c.in-Ok.report.outcome in
     let space = c.searched.new.space in
-    let within = subst (λ (s : Search). AreNear (problem_of c.args.space.now) s.within (pairs_of (kept_of space))) c.search_of-search.ensures.search c.in-Ok.ensures.near in
-    let near = subst (λ (t : Task). AreNear (plain_problem t.problem) (3 * c.args.balls) (pairs_of (kept_of space))) (sym c.searched.ensures.task) within in
-    let prefixes = subst (λ (t : Task). HasPrefixes (plain_problem t.problem) (pairs_of (kept_of space)) o) (sym c.searched.ensures.task) c.in-Ok.ensures.prefixes in
+    let within = subst (λ (s : Search). AreNear (problem_of c.args.space.now) s.within (pairs_of (kept_of space)))
+    c.search_of-search.ensures.search c.in-Ok.ensures.near in
+    let near = subst (λ (t : Task). AreNear (plain_problem t.problem) (3 * c.args.balls) (pairs_of (kept_of space)))
+    (sym c.searched.ensures.task) within in
+    let prefixes = subst (λ (t : Task). HasPrefixes (plain_problem t.problem) (pairs_of (kept_of space)) o)
+    (sym c.searched.ensures.task) c.in-Ok.ensures.prefixes in
     subst (λ (t : Task). KeepsNodes (plain_problem t.problem) (3 * c.args.balls) o c.kept.result) (sym c.task.ensures)
     (keeps_nodes (problem_of space) (3 * c.args.balls) (kept_of space) o c.kept.result c.kept.ensures.count near prefixes)
 

@@ -9,9 +9,11 @@ search-requires g c =
 pub returns-in-Breadth-clause-trace : goal.returns-in-Breadth-clause-trace
 returns-in-Breadth-clause-trace g c =
     let told = c.search.ensures in
-    breadth_told c.kept_pairs_have_events.ensures c.pair_goes_on.ensures c.false_residual_begins_no_satisfying_run.ensures c.args.search _ c.args.watch _ _ _ c.search.result c.in-Breadth.is told.outcome told.reported told.first told.pruned told.ends
+    breadth_told c.kept_pairs_have_events.ensures c.pair_goes_on.ensures c.false_residual_begins_no_satisfying_run.ensures c.args.search _
+    c.args.watch _ _ _ c.search.result c.in-Breadth.is told.outcome told.reported told.first told.pruned told.ends
 
 pub returns-clause-trace : goal.returns-clause-trace
 returns-clause-trace g c =
     let told = c.search-in-Depth.ensures in
-    depth_told c.kept_pairs_have_events.ensures c.false_residual_begins_no_satisfying_run.ensures c.args.search _ c.args.watch _ c.search-in-Depth.result c.in-Depth.is told.outcome told.reported told.told told.first told.pruned told.ends
+    depth_told c.kept_pairs_have_events.ensures c.false_residual_begins_no_satisfying_run.ensures c.args.search _ c.args.watch _
+    c.search-in-Depth.result c.in-Depth.is told.outcome told.reported told.told told.first told.pruned told.ends

@@ -11,14 +11,16 @@ use Rattle.tl_run.proofs.commands.trace.space_reply.Goals as goal
 pub report_reply-requires-clause-right : goal.report_reply-requires-clause-right
 report_reply-requires-clause-right c =
     let same : task_of c.args.space.now ≡ task_of c.searched.new.space = sym c.searched.ensures.task in
-    subst (λ (t : Task). IsTraceReport c.args.search (plain_problem t.problem) (kept_of c.searched.new.space) c.in-Ok.report) same (c.in-Ok.ensures.trace refl)
+    subst (λ (t : Task). IsTraceReport c.args.search (plain_problem t.problem) (kept_of c.searched.new.space) c.in-Ok.report) same
+    (c.in-Ok.ensures.trace refl)
 
 pub report_reply-requires-clause-named : goal.report_reply-requires-clause-named
 report_reply-requires-clause-named c =
     let task = task_of c.searched.new.space in
     let same : task_of c.args.space.now ≡ task = sym c.searched.ensures.task in
     lines_are_named c.step_is_by_its_conditions.ensures c.args.search task (kept_of c.searched.new.space) c.in-Ok.report
-    (subst (λ (t : Task). IsTraceReport c.args.search (plain_problem t.problem) (kept_of c.searched.new.space) c.in-Ok.report) same (c.in-Ok.ensures.trace refl))
+    (subst (λ (t : Task). IsTraceReport c.args.search (plain_problem t.problem) (kept_of c.searched.new.space) c.in-Ok.report) same
+    (c.in-Ok.ensures.trace refl))
     (subst (λ (t : Task). EventsAreNamed t c.in-Ok.report.events) same c.in-Ok.ensures.events_named)
     (subst (λ (t : Task). OutcomeIsNamed t c.in-Ok.report.outcome) same c.in-Ok.ensures.named)
 

@@ -12,4 +12,5 @@ returns-in-Some c =
     let s = c.self.inside in
     let e : Numbers × Arrival = (c.args.key, c.in-Some.arrival.now) in
     subst (λ (es : List (Numbers × Arrival)). Among e es) c.self.view_is
-    (among-right e (entries_from 0 s.first.items) s.others.entries (other-among numbers_eq numbers-tells s.others.entries c.args.key c.in-Some.arrival.now (sym c.in-Some.ensures.value)))
+    (among-right e (entries_from 0 s.first.items) s.others.entries (other-among numbers_eq numbers-tells s.others.entries c.args.key
+    c.in-Some.arrival.now (sym c.in-Some.ensures.value)))

@@ -12,7 +12,8 @@ pub returns-in-Ok-Known-clause-grows : goal.returns-in-Ok-Known-clause-grows
 returns-in-Ok-Known-clause-grows c = keeps-grows c.args.self.now c.find.new.self c.find.ensures.keeps
 
 pub returns-in-Ok-Known-clause-arrival : goal.returns-in-Ok-Known-clause-arrival
-returns-in-Ok-Known-clause-arrival c = known-comes c.args.self.now c.find.new.self c.args.key c.find.ensures.keeps c.requires.key c.in-Ok-Known.arrival (way_after c.args.self.now c.args.at c.args.a.now) (rw c.in-Ok-Known.field-0-is at c.in-Ok-Known.ensures.found)
+returns-in-Ok-Known-clause-arrival c = known-comes c.args.self.now c.find.new.self c.args.key c.find.ensures.keeps c.requires.key
+    c.in-Ok-Known.arrival (way_after c.args.self.now c.args.at c.args.a.now) (rw c.in-Ok-Known.field-0-is at c.in-Ok-Known.ensures.found)
 
 pub keep_after-requires-clause-key : goal.keep_after-requires-clause-key
 keep_after-requires-clause-key c = numbers-later c.args.self.now c.find.new.self c.args.key c.find.ensures.keeps c.requires.key
@@ -21,31 +22,40 @@ pub keep_after-requires-clause-new : goal.keep_after-requires-clause-new
 keep_after-requires-clause-new c = rw c.in-Ok-New.field-0-is at c.in-Ok-New.ensures.found
 
 pub keep_after-requires-clause-at : goal.keep_after-requires-clause-at
-keep_after-requires-clause-at c = subst (λ xs. c.args.at < length xs) (sym (keeps-kept c.args.self.now c.find.new.self c.find.ensures.keeps)) c.requires.at
+keep_after-requires-clause-at c = subst (λ xs. c.args.at < length xs) (sym
+    (keeps-kept c.args.self.now c.find.new.self c.find.ensures.keeps)) c.requires.at
 
 pub keep_after-requires-clause-named : goal.keep_after-requires-clause-named
-keep_after-requires-clause-named c = subst (λ n. ArgumentsAreNamed n c.args.a.now) (sym (keeps-names c.args.self.now c.find.new.self c.find.ensures.keeps)) c.requires.named
+keep_after-requires-clause-named c = subst (λ n. ArgumentsAreNamed n c.args.a.now)
+    (sym (keeps-names c.args.self.now c.find.new.self c.find.ensures.keeps)) c.requires.named
 
 pub keep_after-requires-clause-walk : goal.keep_after-requires-clause-walk
 keep_after-requires-clause-walk c =
     let s = c.args.self.now in
     let t = c.find.new.self in
     ap (walk (pair_graph (problem_of t))) (way-later s t c.args.at c.args.a.now c.find.ensures.keeps)
-    ∙ walk-later s t c.args.key c.find.ensures.keeps c.requires.key c.in-Ok-New.numbers (rw c.in-Ok-New.field-0-is at c.in-Ok-New.ensures.found) (way_after s c.args.at c.args.a.now) c.requires.walk
+    ∙ walk-later s t c.args.key c.find.ensures.keeps c.requires.key c.in-Ok-New.numbers
+    (rw c.in-Ok-New.field-0-is at c.in-Ok-New.ensures.found) (way_after s c.args.at c.args.a.now) c.requires.walk
 
 pub returns-in-Ok-clause-grows : goal.returns-in-Ok-clause-grows
-returns-in-Ok-clause-grows c = grows-behind c.args.self.now c.find.new.self c.keep_after.new.self c.find.ensures.keeps c.keep_after.ensures.grows
+returns-in-Ok-clause-grows c = grows-behind c.args.self.now c.find.new.self c.keep_after.new.self c.find.ensures.keeps
+    c.keep_after.ensures.grows
 
 pub returns-in-Ok-clause-arrival : goal.returns-in-Ok-clause-arrival
 returns-in-Ok-clause-arrival c =
     let t = c.find.new.self in
-    fresh-comes c.args.self.now t c.args.key c.find.ensures.keeps c.requires.key c.in-Ok-New.numbers (rw c.in-Ok-New.field-0-is at c.in-Ok-New.ensures.found) c.in-Ok.k (kept_of c.keep_after.new.self) (way_after t c.args.at c.args.a.now) (way_after c.args.self.now c.args.at c.args.a.now) c.in-Ok.ensures.number c.in-Ok.ensures.kept (way-later c.args.self.now t c.args.at c.args.a.now c.find.ensures.keeps)
+    fresh-comes c.args.self.now t c.args.key c.find.ensures.keeps c.requires.key c.in-Ok-New.numbers
+    (rw c.in-Ok-New.field-0-is at c.in-Ok-New.ensures.found) c.in-Ok.k (kept_of c.keep_after.new.self)
+    (way_after t c.args.at c.args.a.now) (way_after c.args.self.now c.args.at c.args.a.now) c.in-Ok.ensures.number c.in-Ok.ensures.kept
+    (way-later c.args.self.now t c.args.at c.args.a.now c.find.ensures.keeps)
 
 pub returns-in-Err-keep_after-clause-grows : goal.returns-in-Err-keep_after-clause-grows
-returns-in-Err-keep_after-clause-grows c = grows-behind c.args.self.now c.find.new.self c.keep_after.new.self c.find.ensures.keeps c.keep_after.ensures.grows
+returns-in-Err-keep_after-clause-grows c = grows-behind c.args.self.now c.find.new.self c.keep_after.new.self c.find.ensures.keeps
+    c.keep_after.ensures.grows
 
 pub returns-in-Err-keep_after-clause-refused : goal.returns-in-Err-keep_after-clause-refused
-returns-in-Err-keep_after-clause-refused c = c.in-Err-keep_after.ensures.refused ∙ keeps-kept c.args.self.now c.find.new.self c.find.ensures.keeps
+returns-in-Err-keep_after-clause-refused c = c.in-Err-keep_after.ensures.refused ∙
+    keeps-kept c.args.self.now c.find.new.self c.find.ensures.keeps
 
 pub returns-in-Err-clause-grows : goal.returns-in-Err-clause-grows
 returns-in-Err-clause-grows c = keeps-grows c.args.self.now c.find.new.self c.find.ensures.keeps

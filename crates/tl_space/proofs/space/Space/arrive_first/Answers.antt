@@ -14,7 +14,8 @@ pub returns-in-Ok-Known-clause-grows : goal.returns-in-Ok-Known-clause-grows
 returns-in-Ok-Known-clause-grows c = keeps-grows c.args.self.now c.find.new.self c.find.ensures.keeps
 
 pub returns-in-Ok-Known-clause-arrival : goal.returns-in-Ok-Known-clause-arrival
-returns-in-Ok-Known-clause-arrival c = known-comes c.args.self.now c.find.new.self c.args.key c.find.ensures.keeps c.requires.key c.in-Ok-Known.arrival [] (rw c.in-Ok-Known.field-0-is at c.in-Ok-Known.ensures.found)
+returns-in-Ok-Known-clause-arrival c = known-comes c.args.self.now c.find.new.self c.args.key c.find.ensures.keeps c.requires.key
+    c.in-Ok-Known.arrival [] (rw c.in-Ok-Known.field-0-is at c.in-Ok-Known.ensures.found)
 
 pub keep-requires-clause-key : goal.keep-requires-clause-key
 keep-requires-clause-key c = numbers-later c.args.self.now c.find.new.self c.args.key c.find.ensures.keeps c.requires.key
@@ -29,7 +30,8 @@ pub keep-requires-clause-walk : goal.keep-requires-clause-walk
 keep-requires-clause-walk c =
     let t = c.find.new.self in
     ap (walk (pair_graph (problem_of t))) (first-path (paths_of t.from))
-    ∙ walk-later c.args.self.now t c.args.key c.find.ensures.keeps c.requires.key c.in-Ok-New.numbers (rw c.in-Ok-New.field-0-is at c.in-Ok-New.ensures.found) [] c.requires.walk
+    ∙ walk-later c.args.self.now t c.args.key c.find.ensures.keeps c.requires.key c.in-Ok-New.numbers
+    (rw c.in-Ok-New.field-0-is at c.in-Ok-New.ensures.found) [] c.requires.walk
 
 pub returns-in-Ok-clause-grows : goal.returns-in-Ok-clause-grows
 returns-in-Ok-clause-grows c = grows-behind c.args.self.now c.find.new.self c.keep.new.self c.find.ensures.keeps c.keep.ensures.grows
@@ -37,7 +39,9 @@ returns-in-Ok-clause-grows c = grows-behind c.args.self.now c.find.new.self c.ke
 pub returns-in-Ok-clause-arrival : goal.returns-in-Ok-clause-arrival
 returns-in-Ok-clause-arrival c =
     let t = c.find.new.self in
-    fresh-comes c.args.self.now t c.args.key c.find.ensures.keeps c.requires.key c.in-Ok-New.numbers (rw c.in-Ok-New.field-0-is at c.in-Ok-New.ensures.found) c.in-Ok.k (kept_of c.keep.new.self) (way_in t met.First) [] c.in-Ok.ensures.number c.in-Ok.ensures.kept (first-path (paths_of t.from))
+    fresh-comes c.args.self.now t c.args.key c.find.ensures.keeps c.requires.key c.in-Ok-New.numbers
+    (rw c.in-Ok-New.field-0-is at c.in-Ok-New.ensures.found) c.in-Ok.k (kept_of c.keep.new.self)
+    (way_in t met.First) [] c.in-Ok.ensures.number c.in-Ok.ensures.kept (first-path (paths_of t.from))
 
 pub returns-in-Err-keep-clause-grows : goal.returns-in-Err-keep-clause-grows
 returns-in-Err-keep-clause-grows c = grows-behind c.args.self.now c.find.new.self c.keep.new.self c.find.ensures.keeps c.keep.ensures.grows

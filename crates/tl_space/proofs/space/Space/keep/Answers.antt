@@ -3,7 +3,8 @@ use Rattle.tl_known.proofs.Numbering.{stored}
 use Rattle.tl_space.proofs.Inserting.{pushed, not-found, new-place}
 use Rattle.tl_space.proofs.MetWays.{taken-before, still-inside, on-error}
 use Rattle.tl_space.proofs.SpaceLaws.{count}
-use Rattle.tl_space.proofs.Keeping.{numbers_eq, numbers-tells, kept-after, still-kept, labels-still, kept-by-with, remembered-after, kept-by-same, remembered-same, kept-same, kept-stays-same, labels-stay-same}
+use Rattle.tl_space.proofs.Keeping.{numbers_eq, numbers-tells, kept-after, still-kept, labels-still, kept-by-with, remembered-after}
+use Rattle.tl_space.proofs.Keeping.{kept-by-same, remembered-same, kept-same, kept-stays-same, labels-stay-same}
 use Rattle.tl_space.proofs.space.Space.keep.Goals as goal
 
 pub invariant_of-self : goal.invariant_of-self
@@ -23,10 +24,12 @@ invariant_of-self-in-Ok c =
     let n = c.args.numbers in
     let m = c.args.met in
     let new = c.requires.new in
-    let e = pushed numbers_eq numbers-tells s.pairs.keys _ n c.in-Ok.ensures.keys (not-found numbers_eq numbers-tells n s.pairs.keys new.new.absent) in
+    let e = pushed numbers_eq numbers-tells s.pairs.keys _ n c.in-Ok.ensures.keys
+    (not-found numbers_eq numbers-tells n s.pairs.keys new.new.absent) in
     let f = c.in_ok-push.ensures.done in
     let k = c.in-Ok.ensures.stored in
-    let at = new-place numbers_eq numbers-tells n s.pairs.keys c.insert_full.new.self.keys c.in-Ok.at e new.new.absent (stored numbers_eq numbers-tells n k.0 c.insert_full.new.self.keys c.in-Ok.at k.1 k.2) in
+    let at = new-place numbers_eq numbers-tells n s.pairs.keys c.insert_full.new.self.keys c.in-Ok.at e new.new.absent
+    (stored numbers_eq numbers-tells n k.0 c.insert_full.new.self.keys c.in-Ok.at k.1 k.2) in
     record {
       lists = s.lists;
       named_worlds = s.named_worlds;
@@ -36,7 +39,8 @@ invariant_of-self-in-Ok c =
     }
 
 pub truncate-requires : goal.truncate-requires
-truncate-requires c = still-inside c.args.self.now.from c.push.new.self c.args.met c.len-before.result c.len-before.ensures c.in_ok-push.ensures.done
+truncate-requires c = still-inside c.args.self.now.from c.push.new.self c.args.met c.len-before.result c.len-before.ensures
+    c.in_ok-push.ensures.done
 
 pub invariant_of-self-in-Err : goal.invariant_of-self-in-Err
 invariant_of-self-in-Err c =
@@ -81,7 +85,8 @@ returns-in_err-push-clause-grows c =
     }
 
 pub returns-in_err-push-clause-refused : goal.returns-in_err-push-clause-refused
-returns-in_err-push-clause-refused c = on-error c.from_residual.result (kept-same c.args.self.now c.args.self.now.pairs.keys _ refl c.in_err-push.ensures.refused)
+returns-in_err-push-clause-refused c = on-error c.from_residual.result
+    (kept-same c.args.self.now c.args.self.now.pairs.keys _ refl c.in_err-push.ensures.refused)
 
 pub returns-in-Ok-clause-grows : goal.returns-in-Ok-clause-grows
 returns-in-Ok-clause-grows c =
@@ -89,7 +94,8 @@ returns-in-Ok-clause-grows c =
     let n = c.args.numbers in
     let m = c.args.met in
     let new = c.requires.new in
-    let e = pushed numbers_eq numbers-tells s.pairs.keys _ n c.in-Ok.ensures.keys (not-found numbers_eq numbers-tells n s.pairs.keys new.new.absent) in
+    let e = pushed numbers_eq numbers-tells s.pairs.keys _ n c.in-Ok.ensures.keys
+    (not-found numbers_eq numbers-tells n s.pairs.keys new.new.absent) in
     let f = c.in_ok-push.ensures.done in
     record {
       task = refl;
@@ -103,9 +109,11 @@ returns-in-Ok-clause-number c =
     let s = c.args.self.now in
     let n = c.args.numbers in
     let new = c.requires.new in
-    let e = pushed numbers_eq numbers-tells s.pairs.keys _ n c.in-Ok.ensures.keys (not-found numbers_eq numbers-tells n s.pairs.keys new.new.absent) in
+    let e = pushed numbers_eq numbers-tells s.pairs.keys _ n c.in-Ok.ensures.keys
+    (not-found numbers_eq numbers-tells n s.pairs.keys new.new.absent) in
     let k = c.in-Ok.ensures.stored in
-    new-place numbers_eq numbers-tells n s.pairs.keys c.insert_full.new.self.keys c.in-Ok.at e new.new.absent (stored numbers_eq numbers-tells n k.0 c.insert_full.new.self.keys c.in-Ok.at k.1 k.2)
+    new-place numbers_eq numbers-tells n s.pairs.keys c.insert_full.new.self.keys c.in-Ok.at e new.new.absent
+    (stored numbers_eq numbers-tells n k.0 c.insert_full.new.self.keys c.in-Ok.at k.1 k.2)
     ∙ sym (count s)
 
 pub returns-in-Ok-clause-kept : goal.returns-in-Ok-clause-kept
@@ -114,6 +122,7 @@ returns-in-Ok-clause-kept c =
     let n = c.args.numbers in
     let m = c.args.met in
     let new = c.requires.new in
-    let e = pushed numbers_eq numbers-tells s.pairs.keys _ n c.in-Ok.ensures.keys (not-found numbers_eq numbers-tells n s.pairs.keys new.new.absent) in
+    let e = pushed numbers_eq numbers-tells s.pairs.keys _ n c.in-Ok.ensures.keys
+    (not-found numbers_eq numbers-tells n s.pairs.keys new.new.absent) in
     let f = c.in_ok-push.ensures.done in
     kept-after s n m _ _ e f

@@ -18,9 +18,11 @@ keep-requires-clause-named c = subst (ArgumentsAreNamed (name_count c.args.self.
 pub keep-requires-clause-walk : goal.keep-requires-clause-walk
 keep-requires-clause-walk c =
     let s = c.args.self.now in
-    ap (walk (pair_graph (problem_of s))) (after-path (paths_of s.from) c.args.at c.args.a.now _ c.in_ok-action.ensures.same) ∙ c.requires.walk
+    ap (walk (pair_graph (problem_of s))) (after-path (paths_of s.from) c.args.at c.args.a.now _ c.in_ok-action.ensures.same) ∙
+    c.requires.walk
 
 pub returns-clause-kept : goal.returns-clause-kept
 returns-clause-kept c =
     let s = c.args.self.now in
-    subst (λ (u : List Action). IfOk c.keep.result (λ k. IsKeptLast s c.keep.new.self (node_in s c.args.numbers) u)) (after-path (paths_of s.from) c.args.at c.args.a.now _ c.in_ok-action.ensures.same) c.keep.ensures.kept
+    subst (λ (u : List Action). IfOk c.keep.result (λ k. IsKeptLast s c.keep.new.self (node_in s c.args.numbers) u))
+    (after-path (paths_of s.from) c.args.at c.args.a.now _ c.in_ok-action.ensures.same) c.keep.ensures.kept

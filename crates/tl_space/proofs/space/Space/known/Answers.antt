@@ -8,7 +8,8 @@ pub returns-then-numbers-eq-FALSE-clause-known : goal.returns-then-numbers-eq-FA
 returns-then-numbers-eq-FALSE-clause-known c = is-false c.args.self.now c.args.numbers c.if-numbers-eq-FALSE.true
 
 pub returns-in-Some-clause-known : goal.returns-in-Some-clause-known
-returns-in-Some-clause-known c = known-at c.args.self.now c.args.numbers c.in-Some.at (found-at numbers_eq numbers-tells c.args.numbers c.args.self.now.pairs.keys c.in-Some.at (sym c.in-Some.ensures.index))
+returns-in-Some-clause-known c = known-at c.args.self.now c.args.numbers c.in-Some.at
+    (found-at numbers_eq numbers-tells c.args.numbers c.args.self.now.pairs.keys c.in-Some.at (sym c.in-Some.ensures.index))
 
 pub returns-in-None-clause-fresh : goal.returns-in-None-clause-fresh
 returns-in-None-clause-fresh c = record {

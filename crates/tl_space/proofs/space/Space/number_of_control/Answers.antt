@@ -13,7 +13,8 @@ invariant_of-self c =
       named_worlds = s.named_worlds;
       kept = kept-still s _ _ (λ i x e. e) c.number_control.ensures.kept;
       remembered = remembered-still s _ _ (λ i x e. e) c.number_control.ensures.kept;
-      found = found-stays (problem_of s) (worlds_in s.worlds) (worlds_in s.worlds) (trees s.nodes) _ s.residuals (λ i x e. e) c.number_control.ensures.kept s.found;
+      found = found-stays (problem_of s) (worlds_in s.worlds) (worlds_in s.worlds) (trees s.nodes) _ s.residuals
+          (λ i x e. e) c.number_control.ensures.kept s.found;
     }
 
 pub returns-clause-label : goal.returns-clause-label

@@ -22,4 +22,11 @@ invariant_of-self c =
     }
 
 pub returns-clause-keeps : goal.returns-clause-keeps
-returns-clause-keeps c = record { task = refl; worlds = added-stay _ c.args.world _ c.number.ensures.kept; trees = λ i x e. e; pairs = refl; from = refl }
+returns-clause-keeps c = record {
+  task = refl;
+  worlds = added-stay _ c.args.world _ c.number.ensures.kept;
+  trees = λ i x e. e;
+  pairs =
+      refl;
+  from = refl;
+}

@@ -13,7 +13,8 @@ use Rattle.tl_space.proofs.space.Space.remembered.Goals as goal
 
 known : (s : Space) (key : Numbers) (o : Option Arrival) → IfSome o (λ r. Among (key, r) s.arrivals) → IfSome o (IsKnownIn s key)
 known s key None h = tt
-known s key (Some r) h = (each-among (IsRemembered (problem_of s) (worlds_in s.worlds) (trees s.nodes) s.pairs.keys) s.arrivals (key, r) s.remembered h).known
+known s key (Some r) h = (each-among (IsRemembered (problem_of s) (worlds_in s.worlds) (trees s.nodes) s.pairs.keys) s.arrivals
+    (key, r) s.remembered h).known
 
 pub returns : goal.returns
 returns c = known c.args.self.now c.args.key c.get.result c.get.ensures
