@@ -12,9 +12,6 @@ const SYMBOLS: u32 = 0x8000_0000;
 /// Among how many other values one is looked for.
 const LOOKED_AT: usize = 32;
 
-/// Lists of so many actions, and shorter ones, are kept as they are.
-const FEW: usize = 16;
-
 /// An action: its operator, and where the codes of its arguments stand.
 #[derive(Clone, Copy)]
 pub struct Head {
@@ -26,29 +23,26 @@ pub struct Head {
     pub count: u32,
 }
 
-/// A list of actions, which contracts see as such. Where there are more than a few, an action takes
-/// 12 bytes and 4 for each argument: a code of 32 bits, which is a symbol's number, or the place
-/// among others of an integer or a symbol of a large number.
+/// A list of actions, which contracts see as such. An action takes 12 bytes and 4 for each argument:
+/// a code of 32 bits, which is a symbol's number, or the place among others of an integer or a symbol
+/// of a large number.
 #[derive(Drop)]
 pub struct PackedActions {
-    count: usize,
-    few: Actions,
     heads: Vec<Head>,
     codes: Vec<u32>,
     others: Vec<Value>,
 }
 
 impl Model for PackedActions {
-    ghost use Rattle.std.specs.Prelude.{◌≡◌, ◌+◌, ◌++◌, List, length, map};
+    ghost use Rattle.std.specs.Prelude.{List, map};
     ghost use Rattle.tl_syntax.specs.declared.action.Action.{Action as PlainAction};
     ghost use Rattle.tl_depth.specs.Packed.{action_of, ArePacked};
 
     ghost Value = { List PlainAction };
 
-    ghost view = { λ p. p.few ++ map (action_of p.codes.items p.others.items) p.heads.items };
+    ghost view = { λ p. map (action_of p.codes.items p.others.items) p.heads.items };
 
-    ghost invariant = { λ p. ArePacked p.codes.items p.others.items p.heads.items
-        × (p.count ≡ length p.few + length p.heads.items) };
+    ghost invariant = { λ p. ArePacked p.codes.items p.others.items p.heads.items };
 }
 
 /// Whether the two are the same value. It takes no memory.
@@ -158,12 +152,12 @@ fn count_args(actions: &[Action]) -> usize {
 }
 
 impl PackedActions {
-    /// The actions, each by its numbers.
-    fn packed(alloc: Global, actions: &Actions) -> Result<PackedActions, NoMemory>
+    /// The same list. It fails for want of memory alone, which is so for arguments of 2^32 codes
+    /// too.
+    pub fn of(alloc: Global, actions: &Actions) -> Result<PackedActions, NoMemory>
         ensures { IfOk result (λ packed. packed ≡ actions.now) }
     {
-        let count = actions.len();
-        let mut heads = Vec::with_capacity(alloc, count)?;
+        let mut heads = Vec::with_capacity(alloc, actions.len())?;
         let mut codes = Vec::with_capacity(alloc, count_args(actions.as_slice()))?;
         let mut others = Vec::new(alloc);
         for action in actions.as_slice() {
@@ -171,28 +165,9 @@ impl PackedActions {
             heads.push(head)?;
         }
         Ok(PackedActions {
-            count,
-            few: Actions::new(alloc),
             heads,
             codes,
             others,
-        })
-    }
-
-    /// The same list. It fails for want of memory alone, which is so for arguments of 2^32 codes
-    /// too.
-    pub fn of(alloc: Global, actions: Actions) -> Result<PackedActions, NoMemory>
-        ensures { IfOk result (λ packed. packed ≡ actions) }
-    {
-        if actions.len() > FEW {
-            return PackedActions::packed(alloc, &actions);
-        }
-        Ok(PackedActions {
-            count: actions.len(),
-            few: actions,
-            heads: Vec::new(alloc),
-            codes: Vec::new(alloc),
-            others: Vec::new(alloc),
         })
     }
 
@@ -200,7 +175,7 @@ impl PackedActions {
     pub fn len(&self) -> usize
         ensures { result ≡ length self.now }
     {
-        self.count
+        self.heads.len()
     }
 
     /// The action at a place. It fails for want of memory alone.
@@ -208,11 +183,7 @@ impl PackedActions {
         requires { at < length self.now }
         ensures { IfOk result (λ action. slice_get self.now at ≡ Some action) }
     {
-        let few = self.few.as_slice();
-        if at < few.len() {
-            return few[at].copy(alloc);
-        }
-        let head = self.heads[at - few.len()];
+        let head = self.heads[at];
         let from = head.from as usize;
         let codes = &self.codes.as_slice()[from..from + head.count as usize];
         let mut args = Values::new(alloc);

@@ -245,7 +245,7 @@ impl DepthFirst {
             return Ok(actions);
         }
         match space.actions(at) {
-            Ok(actions) => Ok(PackedActions::of(alloc, actions)?),
+            Ok(actions) => Ok(PackedActions::of(alloc, &actions)?),
             Err(fault) => Err(levels_fault(alloc, self.stack.as_slice(), fault)),
         }
     }
