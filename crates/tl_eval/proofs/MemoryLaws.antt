@@ -1,5 +1,5 @@
 -- What the entries of a memory say, as entries are put in place and found.
-use Rattle.std.proofs.Common.{◌≡◌, ◌<◌, ◌≤◌, ◌==◌, ℕ, zero, suc, List, [], ◌∷◌, length, take, replicate, get_or, cond, Bool, true, false}
+use Rattle.std.proofs.Common.{◌≡◌, ◌<◌, ◌≤◌, ◌==◌, ◌⊎◌, ℕ, zero, suc, List, [], ◌∷◌, length, take, replicate, get_or, cond, Bool, true, false}
 use Rattle.std.proofs.Common.{refl, sym, ap, ◌∙◌, subst, inl, inr, arith}
 use borrow.Author.Tests.{eq-eqb, ne_eqb}
 use Rattle.std.proofs.lemmas.Bool.{eqb-true}
@@ -81,6 +81,11 @@ widened : (r : Remembered) (xs others more : List Remembered) → ((x : Remember
     AreFrom r more xs
 widened r [] others more f a = tt
 widened r (x ∷ xs) others more f a = (elim a.0 [ inl q ↦ inl q | inr h ↦ inr (f x h) ], widened r xs others more f a.1)
+
+-- those that are from the same or from none are from all that was there
+pub from-fewer : (r : Remembered) (old fewer xs : List Remembered) → (fewer ≡ []) ⊎ (fewer ≡ old) → AreFrom r fewer xs → AreFrom r old xs
+from-fewer r old fewer xs (inl e) a = widened r xs fewer old (λ x h. absurd (subst (Among x) e h)) a
+from-fewer r old fewer xs (inr e) a = subst (λ (ys : List Remembered). AreFrom r ys xs) e a
 
 none-said : (g : ℕ) (e : Entry) → AreFrom (said e) (said_in g []) (said_in g [])
 unfolding said_in

@@ -4,7 +4,7 @@ ghost use Rattle.tl_eval.specs.Frames.{assignment_in, AreKept, Binds, ChangesOnl
 ghost use Rattle.tl_syntax.specs.Lists.{Each};
 
 use crate::kept::{give_back, keep};
-use crate::memory::{Memory, PLACES};
+use crate::memory::{FEW_PLACES, Memory, PLACES};
 use crate::scope::{put_in_scope, restore, saved};
 use crate::term_value::value_in;
 use std::alloc::Global;
@@ -52,8 +52,8 @@ impl Env {
     }
 
     /// `new` for the evaluations of one task. Where nothing is defined there is nothing to
-    /// remember, and less than a KiB is reserved. An evaluation may take memory to gather tuples,
-    /// and goes on without it where there is none.
+    /// remember, and less than a KiB is reserved. An evaluation may take memory, to gather tuples
+    /// and to remember more, and goes on without it where there is none.
     pub fn for_task(alloc: Global, task: &Task) -> Result<Env, NoMemory>
         ensures slots { IfOk result (λ env. length env ≡ 32) }
         ensures empty { IfOk result (λ env. (q : ℕ) → assignment_in env q ≡ None) }
@@ -62,7 +62,7 @@ impl Env {
             let memory = Memory::without_places(alloc);
             return Env::with_memory(alloc, memory.with_gathering(true));
         }
-        let memory = Memory::new(alloc, PLACES)?;
+        let memory = Memory::new(alloc, FEW_PLACES)?;
         Env::with_memory(alloc, memory.with_gathering(true))
     }
 

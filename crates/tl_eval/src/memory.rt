@@ -1,5 +1,5 @@
 // The truths of definitions that are remembered in one world.
-ghost use Rattle.std.specs.Prelude.{◌≡◌, ◌≤◌, ◌<◌, ◌+◌, [], length, take, IfOk, IfSome, IsTrue};
+ghost use Rattle.std.specs.Prelude.{◌≡◌, ◌≤◌, ◌<◌, ◌+◌, ◌⊎◌, [], length, take, IfOk, IfSome, IsTrue};
 ghost use Rattle.tl_eval.specs.Memory.{answered, said};
 ghost use Rattle.tl_eval.specs.Remembered.{AreFrom};
 ghost use Rattle.tl_syntax.specs.Lists.{Among};
@@ -11,11 +11,11 @@ use tl_syntax::{NoMemory, Value};
 /// At how many places, one after another, a truth may stand.
 pub(crate) const TRIES: usize = 8;
 
-/// How many places there are, some 290 KiB.
+/// How many places there are where none may be added, some 290 KiB.
 pub(crate) const PLACES: usize = 2047 + TRIES;
 
-/// How many there are in a smaller one, some 36 KiB.
-const FEW_PLACES: usize = 255 + TRIES;
+/// How many there are at first where some may, some 36 KiB.
+pub(crate) const FEW_PLACES: usize = 255 + TRIES;
 
 /// What hashes are multiplied by: an odd number whose bits are mixed, from the golden ratio.
 const MULTIPLIER: u64 = 0x9e37_79b9_7f4a_7c15;
@@ -149,13 +149,24 @@ fn place_from(entries: &[Entry], generation: u32, home: usize) -> usize
     home
 }
 
+/// The number of places in a table that has four times as many homes.
+fn more_places(places: usize) -> usize
+    ensures { 8 ≤ result }
+{
+    let homes = places.saturating_sub(TRIES - 1).max(1);
+    homes.saturating_mul(4).saturating_add(TRIES - 1)
+}
+
 /// Truths of definitions, each with its definition, level and values, which contracts see as a
-/// list. They stand in a table of fixed size, where a new one may take the place of an old one.
-/// `Env::lend_memory` gives one in which nothing is remembered.
+/// list. They stand in a table where a new one may take the place of an old one, and which grows
+/// where it may take memory. `Env::lend_memory` gives one in which nothing is remembered.
 #[derive(Drop)]
 pub struct Memory {
+    alloc: Global,
     generation: u32,
     entries: Vec<Entry>,
+    /// How many truths were put there since nothing was remembered.
+    count: usize,
     gathers: bool,
 }
 
@@ -184,8 +195,10 @@ impl Memory {
     {
         let entries = vec![in alloc; Entry::none(); places]?;
         Ok(Memory {
+            alloc,
             generation: 1,
             entries,
+            count: 0,
             gathers: false,
         })
     }
@@ -195,25 +208,29 @@ impl Memory {
         ensures { result ≡ [] }
     {
         Memory {
+            alloc,
             generation: 1,
             entries: Vec::new(alloc),
+            count: 0,
             gathers: false,
         }
     }
 
-    /// The same, where `gathers` says whether evaluations may take memory to gather tuples. It
-    /// takes none.
+    /// The same, where `gathers` says whether evaluations may take memory, to gather tuples and to
+    /// remember more. It takes none.
     pub(crate) fn with_gathering(self, gathers: bool) -> Memory
         ensures { result ≡ self }
     {
         Memory {
+            alloc: self.alloc,
             generation: self.generation,
             entries: self.entries,
+            count: self.count,
             gathers,
         }
     }
 
-    /// Whether evaluations may take memory to gather tuples. It takes none.
+    /// Whether evaluations may take memory, to gather tuples and to remember more. It takes none.
     #[inline(always)]
     pub fn gathers(&self) -> bool {
         self.gathers
@@ -240,6 +257,7 @@ impl Memory {
             self.generation = 0;
         }
         self.generation += 1;
+        self.count = 0;
     }
 
     /// The truth of what is asked, where that is remembered. It takes no memory.
@@ -263,9 +281,37 @@ impl Memory {
         None
     }
 
-    /// Remembers the truth of what is asked, where there is a place for it. Something else may be
-    /// forgotten for it. It takes no memory.
+    /// Whether half of the places are taken, and there may be more.
+    fn is_crowded(&self) -> bool {
+        self.gathers && self.count >= self.entries.len() / 2 && self.count > 0
+    }
+
+    /// Takes a table of more places, in which nothing is remembered, where there is memory for it.
+    #[inline(never)]
+    fn grow(&mut self)
+        ensures { (self.new ≡ []) ⊎ (self.new ≡ self.old) }
+    {
+        self.count = 0;
+        if let Ok(larger) = Memory::new(self.alloc, more_places(self.entries.len())) {
+            *self = larger.with_gathering(self.gathers);
+        }
+    }
+
+    /// Remembers the truth of what is asked, where there is a place for it. All else may be
+    /// forgotten for it. It needs no memory.
     pub(crate) fn put(&mut self, hash: u64, asked: &Asked, truth: bool)
+        requires { length asked.now.values.now ≤ 8 }
+        ensures { AreFrom (answered asked.now truth) self.old self.new }
+    {
+        if self.is_crowded() {
+            self.grow();
+        }
+        self.count = self.count.saturating_add(1);
+        self.put_near(hash, asked, truth);
+    }
+
+    /// The same at one of the places for the hash, in the table as it is. It takes no memory.
+    fn put_near(&mut self, hash: u64, asked: &Asked, truth: bool)
         requires { length asked.now.values.now ≤ 8 }
         ensures { AreFrom (answered asked.now truth) self.old self.new }
     {

@@ -3,7 +3,7 @@ use Rattle.std.specs.Prelude.{slice_set}
 use Rattle.tl_eval.specs.Memory.{said, said_in}
 use Rattle.tl_eval.specs.Remembered.{Remembered, AreFrom}
 use Rattle.tl_eval.proofs.MemoryLaws.{put-said, same-from}
-use Rattle.tl_eval.proofs.memory.Memory.put.Goals as goal
+use Rattle.tl_eval.proofs.memory.Memory.put_near.Goals as goal
 
 pub returns : goal.returns
 returns c =
