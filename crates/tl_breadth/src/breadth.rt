@@ -3,6 +3,7 @@ ghost use Rattle.std.specs.Prelude.{◌≡◌, ◌≤◌, [], IfOk, IfErr};
 ghost use Rattle.tl_search.specs.NamedAnswers.{FaultIsNamed};
 ghost use Rattle.tl_search.specs.Reports.{BeginsRightly, PrunesRightly};
 ghost use Rattle.tl_search.specs.Reports.{ReportIsNamed, AnswersWhereCalm};
+ghost use Rattle.tl_search.specs.SameTask.{HasSameTask};
 ghost use Rattle.tl_breadth.specs.Events.{IsTicked};
 ghost use Rattle.tl_breadth.specs.Outcomes.{IsBreadthFirstFault};
 ghost use Rattle.tl_breadth.specs.Reports.{IsBreadthFirstReport, ReportsArrivals, EndsRightly};
@@ -28,8 +29,7 @@ pub fn search<S: SearchSpace, L: Ledger>(
     requires within { within ≤ 100000 }
     requires some_nodes { 1 ≤ nodes }
     requires nodes { nodes ≤ 100000 }
-    ensures task { S.task space.new ≡ S.task space.old }
-    ensures problem { S.problem space.new ≡ S.problem space.old }
+    ensures same { HasSameTask S.task S.problem space.old space.new }
     ensures outcome { IfOk result (IsBreadthFirstReport (S.problem space.old) within nodes
         (S.kept space.new)) }
     ensures reported { IfOk result (ReportsArrivals (S.problem space.old) within watch steps.old

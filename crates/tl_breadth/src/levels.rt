@@ -2,6 +2,7 @@
 ghost use Rattle.std.specs.Prelude.{◌≡◌, ◌≤◌, ◌<◌, ◌+◌, [], IfOk, IfErr, OnOk, OnErr};
 ghost use Rattle.tl_search.specs.NamedAnswers.{OutcomeIsNamed, EndIsNamed};
 ghost use Rattle.tl_search.specs.NamedAnswers.{FaultIsNamed, EventsAreNamed};
+ghost use Rattle.tl_search.specs.SameTask.{HasSameTask};
 ghost use Rattle.tl_breadth.specs.Events.{ReportsSearch, ReportsRest, ReportsTurnIn};
 ghost use Rattle.tl_breadth.specs.Events.{IsTicked, Ticks, EndsWithPath, EndsIfAny};
 ghost use Rattle.tl_breadth.specs.Outcomes.{IsBreadthFirstOutcome, IsBreadthFirstFault};
@@ -49,8 +50,7 @@ impl BreadthFirst {
         requires empty { S.kept space.old ≡ [] }
         requires nodes { 1 ≤ self.now.nodes }
         requires events { events.old ≡ [] }
-        ensures task { S.task space.new ≡ S.task space.old }
-        ensures problem { S.problem space.new ≡ S.problem space.old }
+        ensures same { HasSameTask S.task S.problem space.old space.new }
         ensures outcome { IfOk result (IsBreadthFirstOutcome (S.problem space.old)
             self.now.within self.now.nodes (S.kept space.new)) }
         ensures reported { IfOk result (ReportsSearch self.now (S.problem space.old)
@@ -90,8 +90,7 @@ impl BreadthFirst {
     ) -> Result<Outcome, SearchFault>
         requires level { IsAtRootIn self.now (S.problem space.old) (S.kept space.old) }
         requires events { EventsAreNamed (S.task space.old) events.old }
-        ensures task { S.task space.new ≡ S.task space.old }
-        ensures problem { S.problem space.new ≡ S.problem space.old }
+        ensures same { HasSameTask S.task S.problem space.old space.new }
         ensures outcome { IfOk result (IsBreadthFirstOutcome (S.problem space.old)
             self.now.within self.now.nodes (S.kept space.new)) }
         ensures reported { IfOk result (ReportsRest self.now (S.problem space.old)
@@ -136,8 +135,7 @@ impl BreadthFirst {
         requires start { level.start ≤ level.end }
         requires depth { level.depth < self.now.within }
         requires events { EventsAreNamed (S.task space.old) events.old }
-        ensures task { S.task space.new ≡ S.task space.old }
-        ensures problem { S.problem space.new ≡ S.problem space.old }
+        ensures same { HasSameTask S.task S.problem space.old space.new }
         ensures outcome { IfOk result (LeavesLevel self.now (S.problem space.old) (S.kept space.new)
             level.end (level.depth + 1)) }
         ensures reported { IfOk result (ReportsTurnIn self.now (S.problem space.old)

@@ -1,6 +1,7 @@
 // What a search does with the search node whose turn it is.
 ghost use Rattle.std.specs.Prelude.{◌≡◌, ◌+◌, IfOk, IfErr, OnOk, OnErr};
 ghost use Rattle.tl_search.specs.NamedAnswers.{IsNamedIn, EndIsNamed, FaultIsNamed, EventsAreNamed};
+ghost use Rattle.tl_search.specs.SameTask.{HasSameTask};
 ghost use Rattle.tl_breadth.specs.Events.{TicksArrivalIn, Ticks, ReportsArrivalIn, ReportsTurnIn};
 ghost use Rattle.tl_breadth.specs.Events.{EndsAtLast, EndsIfAny};
 ghost use Rattle.tl_breadth.specs.Outcomes.{IsBreadthFirstFault, EndsEarly, GrowsAfter};
@@ -27,8 +28,7 @@ impl BreadthFirst {
     ) -> Result<Option<Outcome>, SearchFault>
         requires ready { IsReadyIn self.now (S.problem space.old) (S.kept space.old) at }
         requires events { EventsAreNamed (S.task space.old) events.old }
-        ensures task { S.task space.new ≡ S.task space.old }
-        ensures problem { S.problem space.new ≡ S.problem space.old }
+        ensures same { HasSameTask S.task S.problem space.old space.new }
         ensures outcome { IfOk result (LeavesNext self.now (S.problem space.old)
             (S.kept space.new) (at + 1)) }
         ensures grows { OnOk result (GrowsAfter at (S.kept space.old) (S.kept space.new)) }
@@ -69,8 +69,7 @@ impl BreadthFirst {
         requires turn { HasTurnIn self.now (S.problem space.old) (S.kept space.old) at a.now }
         requires named { IsNamedIn (S.task space.old) a.now }
         requires events { EventsAreNamed (S.task space.old) events.old }
-        ensures task { S.task space.new ≡ S.task space.old }
-        ensures problem { S.problem space.new ≡ S.problem space.old }
+        ensures same { HasSameTask S.task S.problem space.old space.new }
         ensures outcome { IfOk result (LeavesTried self.now (S.problem space.old) (S.kept space.old)
             (S.kept space.new) at a.now) }
         ensures grows { OnOk result (GrowsAfter at (S.kept space.old) (S.kept space.new)) }
@@ -111,8 +110,7 @@ impl BreadthFirst {
         k: usize,
     ) -> Result<Option<Outcome>, SearchFault>
         requires { AwaitsJudgementIn self.now (S.problem space.old) (S.kept space.old) k }
-        ensures task { S.task space.new ≡ S.task space.old }
-        ensures problem { S.problem space.new ≡ S.problem space.old }
+        ensures same { HasSameTask S.task S.problem space.old space.new }
         ensures kept { S.kept space.new ≡ S.kept space.old }
         ensures outcome { IfOk result (LeavesUnaccepted self.now (S.problem space.old)
             (S.kept space.old) (k + 1)) }

@@ -9,3 +9,4 @@ pub mod OutcomeLaws
 pub mod NamedLaws
 pub mod FaultLaws
 pub mod SameEvents
+pub mod SameTaskLaws

@@ -4,6 +4,7 @@ pub mod PairGraph
 pub mod KeptPairs
 pub mod ListedActions
 pub mod Plans
+pub mod SameTask
 pub mod Spent
 pub mod RangeCauses
 pub mod Arrivals

@@ -5,6 +5,7 @@ ghost use Rattle.tl_world.specs.declared.task.Task.{Task};
 ghost use Rattle.tl_search.specs.Kept.{AreKept};
 ghost use Rattle.tl_search.specs.PairGraph.{pair_graph};
 ghost use Rattle.tl_search.specs.KeptPairs.{KeptPair};
+ghost use Rattle.tl_search.specs.SameTask.{HasSameTask};
 ghost use Rattle.tl_search.specs.Causes.{IsRootFault};
 ghost use Rattle.tl_search.specs.Calls.{IsExecutableAt, RootArrives, ChildArrives, ListsActionsAt, TellsAcceptance, IsPathOf, AreNamedIn, IsActionsFault, IsAcceptanceFault, IsChildFault};
 
@@ -31,8 +32,7 @@ pub trait SearchSpace {
     /// before.
     fn root(&mut self) -> Result<Arrival, SpaceFault>
         requires empty { kept self.old ≡ [] }
-        ensures task { task self.new ≡ task self.old }
-        ensures problem { problem self.new ≡ problem self.old }
+        ensures same { HasSameTask task problem self.old self.new }
         ensures arrival { IfOk result (RootArrives (problem self.old) (kept self.old) (kept self.new)) }
         ensures kept { AreKept (pair_graph (problem self.new)) (kept self.new) }
         ensures refused { OnErr result (kept self.new ≡ kept self.old) }
@@ -41,8 +41,7 @@ pub trait SearchSpace {
     /// The executable actions of a search node, each once, in action order.
     fn actions(&mut self, at: usize) -> Result<Actions, SpaceFault>
         requires at { at < length (kept self.old) }
-        ensures task { task self.new ≡ task self.old }
-        ensures problem { problem self.new ≡ problem self.old }
+        ensures same { HasSameTask task problem self.old self.new }
         ensures kept { kept self.new ≡ kept self.old }
         ensures actions { IfOk result (ListsActionsAt (problem self.old) (kept self.old) at) }
         ensures named { IfOk result (AreNamedIn (task self.old)) }
@@ -58,8 +57,7 @@ pub trait SearchSpace {
     ) -> Result<Arrival, SpaceFault>
         requires at { at < length (kept self.old) }
         requires executable { IsExecutableAt (problem self.old) (kept self.old) at a.now }
-        ensures task { task self.new ≡ task self.old }
-        ensures problem { problem self.new ≡ problem self.old }
+        ensures same { HasSameTask task problem self.old self.new }
         ensures arrival { IfOk result (ChildArrives (problem self.old) (kept self.old) (kept self.new) at a.now) }
         ensures kept { AreKept (pair_graph (problem self.new)) (kept self.new) }
         ensures refused { OnErr result (kept self.new ≡ kept self.old) }
@@ -70,8 +68,7 @@ pub trait SearchSpace {
     /// that world is repeated for ever.
     fn accepted(&mut self, at: usize) -> Result<bool, SpaceFault>
         requires at { at < length (kept self.old) }
-        ensures task { task self.new ≡ task self.old }
-        ensures problem { problem self.new ≡ problem self.old }
+        ensures same { HasSameTask task problem self.old self.new }
         ensures kept { kept self.new ≡ kept self.old }
         ensures accepted { IfOk result (TellsAcceptance (problem self.old) (kept self.old) at) }
         ensures cause { IfErr result (IsAcceptanceFault (problem self.old) (kept self.old) at) };

@@ -1,10 +1,11 @@
-use Rattle.std.proofs.Common.{◌≡◌, ◌+◌, length, Some, None, refl, sym, ◌∙◌, subst, arith}
+use Rattle.std.proofs.Common.{◌≡◌, ◌+◌, length, Some, None, sym, ◌∙◌, subst, arith}
 use Rattle.std.proofs.lemmas.Option.{slice_get_within}
 use Rattle.tl_search.specs.NamedAnswers.{OutcomeIsNamed, EventsAreNamed}
 use Rattle.tl_breadth.specs.Outcomes.{IsBreadthFirstOutcome, IsAtLevel, HasLevels}
 use Rattle.tl_breadth.specs.Events.{ReportsTurn}
 use Rattle.tl_breadth.proofs.Reporting.{ended, all-arrivals, arrivals-of-levels}
 use Rattle.tl_breadth.proofs.Expanding.{end-none, end-far}
+use Rattle.tl_search.proofs.SameTaskLaws.{same-task, same-task-after}
 use Rattle.tl_breadth.proofs.levels.BreadthFirst.all_levels.Goals as goal
 
 pub expand_level-requires-clause-start : goal.expand_level-requires-clause-start
@@ -13,7 +14,7 @@ expand_level-requires-clause-start g c = omega (arith, c.loop-depth.invariant.le
 pub returns-in-Some-clause-outcome : goal.returns-in-Some-clause-outcome
 returns-in-Some-clause-outcome g c =
     subst (λ p. IsBreadthFirstOutcome p c.args.self.now.within c.args.self.now.nodes
-    (g.S.SearchSpace.kept c.expand_level.new.space) c.in-Some.outcome) c.loop-depth.invariant.problem
+    (g.S.SearchSpace.kept c.expand_level.new.space) c.in-Some.outcome) c.loop-depth.invariant.same.problem
     (rw c.in-Some.is at c.in_ok-outcome.ensures.outcome)
 
 pub returns-then-at-count-clause-outcome : goal.returns-then-at-count-clause-outcome
@@ -35,14 +36,13 @@ loop-depth-preserved g c =
     let i = c.loop-depth.invariant in
     let new = g.S.SearchSpace.kept c.expand_level.new.space in
     record {
-      task = c.expand_level.ensures.task ∙ i.task;
-      problem = c.expand_level.ensures.problem ∙ i.problem;
-      events_named = subst (λ t. EventsAreNamed t c.expand_level.new.events) i.task c.in_ok-outcome.ensures.events_named;
+      same = same-task-after c.expand_level.ensures.same i.same;
+      events_named = subst (λ t. EventsAreNamed t c.expand_level.new.events) i.same.task c.in_ok-outcome.ensures.events_named;
       level = subst (λ p. IsAtLevel p c.args.self.now.within c.args.self.now.nodes new c.count-end.result (length new)
-          (c.loop-depth.depth + 1)) i.problem (rw c.in-None.is at c.in_ok-outcome.ensures.outcome);
+          (c.loop-depth.depth + 1)) i.same.problem (rw c.in-None.is at c.in_ok-outcome.ensures.outcome);
       reported = λ from h. (subst (λ p. ReportsTurn p c.args.self.now.within c.args.self.now.watch (g.S.SearchSpace.kept c.loop-depth.space)
           (g.S.SearchSpace.kept c.expand_level.new.space) c.loop-depth.at c.count-end.result c.loop-depth.events c.expand_level.new.events
-          c.loop-depth.steps c.expand_level.new.steps None) c.loop-depth.invariant.problem
+          c.loop-depth.steps c.expand_level.new.steps None) c.loop-depth.invariant.same.problem
           (rw c.in-None.is at c.in_ok-outcome.ensures.reported)) from (c.loop-depth.invariant.reported from h);
     }
 
@@ -50,7 +50,7 @@ pub returns-in-Some-clause-reported : goal.returns-in-Some-clause-reported
 returns-in-Some-clause-reported g c from h = ended _ _ _ _ _ _ _ c.in-Some.outcome (rw c.in-Some.is at c.in_ok-outcome.ensures.early)
     ((subst (λ p. ReportsTurn p c.args.self.now.within c.args.self.now.watch (g.S.SearchSpace.kept c.loop-depth.space)
     (g.S.SearchSpace.kept c.expand_level.new.space) c.loop-depth.at c.count-end.result c.loop-depth.events c.expand_level.new.events
-    c.loop-depth.steps c.expand_level.new.steps (Some c.in-Some.outcome)) c.loop-depth.invariant.problem
+    c.loop-depth.steps c.expand_level.new.steps (Some c.in-Some.outcome)) c.loop-depth.invariant.same.problem
     (rw c.in-Some.is at c.in_ok-outcome.ensures.reported)) from (c.loop-depth.invariant.reported from h))
 
 pub returns-then-at-count-clause-reported : goal.returns-then-at-count-clause-reported
@@ -77,21 +77,20 @@ returns-else-at-count-clause-reported g c from h = let s = c.loop-depth.invarian
 )
 
 pub returns-in-Some-clause-plan_named : goal.returns-in-Some-clause-plan_named
-returns-in-Some-clause-plan_named g c = subst (λ t. OutcomeIsNamed t c.in-Some.outcome) c.loop-depth.invariant.task
+returns-in-Some-clause-plan_named g c = subst (λ t. OutcomeIsNamed t c.in-Some.outcome) c.loop-depth.invariant.same.task
     (rw c.in-Some.is at c.in_ok-outcome.ensures.plan_named)
 
 pub returns-in-Some-clause-events_named : goal.returns-in-Some-clause-events_named
-returns-in-Some-clause-events_named g c = subst (λ t. EventsAreNamed t c.expand_level.new.events) c.loop-depth.invariant.task
+returns-in-Some-clause-events_named g c = subst (λ t. EventsAreNamed t c.expand_level.new.events) c.loop-depth.invariant.same.task
     c.in_ok-outcome.ensures.events_named
 
 pub expand_level-requires-clause-events : goal.expand_level-requires-clause-events
 expand_level-requires-clause-events g c = subst (λ t. EventsAreNamed t c.loop-depth.events)
-    (sym c.loop-depth.invariant.task) c.loop-depth.invariant.events_named
+    (sym c.loop-depth.invariant.same.task) c.loop-depth.invariant.events_named
 
 pub loop-depth-init : goal.loop-depth-init
 loop-depth-init g c = record {
-  task = refl;
-  problem = refl;
+  same = same-task;
   events_named = c.requires.events;
   level = c.requires.level;
   reported = λ from h.
@@ -106,4 +105,4 @@ expand_level-requires-clause-level g c =
     subst (λ m. IsAtLevel p c.args.self.now.within c.args.self.now.nodes kept c.loop-depth.at m c.loop-depth.depth)
     (sym c.count-end.ensures.count)
     (subst (λ q. IsAtLevel q c.args.self.now.within c.args.self.now.nodes kept c.loop-depth.at (length kept) c.loop-depth.depth)
-    (sym i.problem) i.level)
+    (sym i.same.problem) i.level)

@@ -22,9 +22,9 @@ pub outcome_at-requires : goal.outcome_at-requires
 outcome_at-requires g c =
     let t = c.requires.turn in
     let new = g.S.SearchSpace.kept c.child.new.self in
-    subst (λ p. AwaitsJudgement p c.args.self.now.within c.args.self.now.nodes new c.in-Ok-Fresh.k) (sym c.child.ensures.problem)
+    subst (λ p. AwaitsJudgement p c.args.self.now.within c.args.self.now.nodes new c.in-Ok-Fresh.k) (sym c.child.ensures.same.problem)
     (fresh-awaits _ _ _ _ _ _ new t.pair t.is_pair c.in-Ok-Fresh.k t ((rw c.in-Ok-Fresh.field-0-is at c.in-Ok-Fresh.ensures.arrival) t.pair
-    t.is_pair) (subst (λ p. AreKept (pair_graph p) new) c.child.ensures.problem c.child.ensures.kept))
+    t.is_pair) (subst (λ p. AreKept (pair_graph p) new) c.child.ensures.same.problem c.child.ensures.kept))
 
 pub returns-in_ok-report_arrival-in-Ok-Fresh-clause-outcome : goal.returns-in_ok-report_arrival-in-Ok-Fresh-clause-outcome
 returns-in_ok-report_arrival-in-Ok-Fresh-clause-outcome g c =
@@ -40,8 +40,8 @@ returns-in_ok-report_arrival-in-Ok-Fresh-clause-outcome g c =
     (leaves-map p n b new (NoneAccepted p new (k + 1) × (k + 1 ≤ b)) (IsTriedThen p n b old new c.args.at c.args.a.now) c.outcome_at.result
     (λ h. fresh-tried p n b old c.args.at c.args.a.now new t.pair t.is_pair k t
     ((rw c.in-Ok-Fresh.field-0-is at c.in-Ok-Fresh.ensures.arrival) t.pair t.is_pair)
-    (subst (λ q. AreKept (pair_graph q) new) c.child.ensures.problem c.child.ensures.kept) h.0 h.1)
-    (subst (λ q. IfOk c.outcome_at.result (Leaves q n b new (NoneAccepted q new (k + 1) × (k + 1 ≤ b)))) c.child.ensures.problem
+    (subst (λ q. AreKept (pair_graph q) new) c.child.ensures.same.problem c.child.ensures.kept) h.0 h.1)
+    (subst (λ q. IfOk c.outcome_at.result (Leaves q n b new (NoneAccepted q new (k + 1) × (k + 1 ≤ b)))) c.child.ensures.same.problem
     c.outcome_at.ensures.outcome))
 
 pub returns-in_ok-report_arrival-in-Ok-Seen-clause-outcome : goal.returns-in_ok-report_arrival-in-Ok-Seen-clause-outcome
@@ -82,7 +82,7 @@ returns-in_ok-report_arrival-in-Ok-Fresh-clause-reported g c =
     (report-step p c.args.self.now.within c.args.self.now.watch from old new c.args.at pair listed k c.args.a.now
     (arrival.Fresh c.in-Ok-Fresh.k) c.args.events.now events c.args.steps.now e short l turn
     ((rw c.in-Ok-Fresh.field-0-is at c.in-Ok-Fresh.ensures.arrival) pair e)
-    (subst (λ q. AreKept (pair_graph q) new) c.child.ensures.problem c.child.ensures.kept) c.in_ok-report_arrival-in-Ok-Fresh.ensures
+    (subst (λ q. AreKept (pair_graph q) new) c.child.ensures.same.problem c.child.ensures.kept) c.in_ok-report_arrival-in-Ok-Fresh.ensures
     s)))
 
 pub returns-in_ok-report_arrival-in-Ok-Seen-clause-reported : goal.returns-in_ok-report_arrival-in-Ok-Seen-clause-reported
@@ -96,7 +96,7 @@ returns-in_ok-report_arrival-in-Ok-Seen-clause-reported g c from k pair listed e
     (report-step p c.args.self.now.within c.args.self.now.watch from old new c.args.at pair listed k c.args.a.now
     (arrival.Seen c.in-Ok-Seen.k) c.args.events.now events c.args.steps.now e short l turn
     ((rw c.in-Ok-Seen.field-0-is at c.in-Ok-Seen.ensures.arrival) pair e)
-    (subst (λ q. AreKept (pair_graph q) new) c.child.ensures.problem c.child.ensures.kept) c.in_ok-report_arrival-in-Ok-Seen.ensures s)
+    (subst (λ q. AreKept (pair_graph q) new) c.child.ensures.same.problem c.child.ensures.kept) c.in_ok-report_arrival-in-Ok-Seen.ensures s)
 
 pub returns-in_ok-report_arrival-in-Ok-Pruned-clause-reported : goal.returns-in_ok-report_arrival-in-Ok-Pruned-clause-reported
 returns-in_ok-report_arrival-in-Ok-Pruned-clause-reported g c from k pair listed e short l turn s =
@@ -108,7 +108,7 @@ returns-in_ok-report_arrival-in-Ok-Pruned-clause-reported g c from k pair listed
     (sym c.child.ensures.ticks)
     (report-step p c.args.self.now.within c.args.self.now.watch from old new c.args.at pair listed k c.args.a.now arrival.Pruned
     c.args.events.now events c.args.steps.now e short l turn ((rw c.in-Ok-Pruned.field-0-is at c.in-Ok-Pruned.ensures.arrival) pair e)
-    (subst (λ q. AreKept (pair_graph q) new) c.child.ensures.problem c.child.ensures.kept) c.in_ok-report_arrival-in-Ok-Pruned.ensures
+    (subst (λ q. AreKept (pair_graph q) new) c.child.ensures.same.problem c.child.ensures.kept) c.in_ok-report_arrival-in-Ok-Pruned.ensures
     s)
 
 pub returns-in_ok-report_arrival-in-Ok-Fresh-clause-ends : goal.returns-in_ok-report_arrival-in-Ok-Fresh-clause-ends
@@ -150,11 +150,11 @@ returns-in_ok-report_arrival-in-Ok-Fresh-clause-ticked g c = err-anyway _ c.outc
 
 pub returns-in_ok-report_arrival-in-Ok-Fresh-clause-plan_named : goal.returns-in_ok-report_arrival-in-Ok-Fresh-clause-plan_named
 returns-in_ok-report_arrival-in-Ok-Fresh-clause-plan_named g c = subst
-    (λ t. IfOk c.outcome_at.result (EndIsNamed t)) c.child.ensures.task c.outcome_at.ensures.plan_named
+    (λ t. IfOk c.outcome_at.result (EndIsNamed t)) c.child.ensures.same.task c.outcome_at.ensures.plan_named
 
 pub returns-in_ok-report_arrival-in-Ok-Fresh-clause-path_named : goal.returns-in_ok-report_arrival-in-Ok-Fresh-clause-path_named
 returns-in_ok-report_arrival-in-Ok-Fresh-clause-path_named g c = subst
-    (λ t. IfErr c.outcome_at.result (FaultIsNamed t)) c.child.ensures.task c.outcome_at.ensures.path_named
+    (λ t. IfErr c.outcome_at.result (FaultIsNamed t)) c.child.ensures.same.task c.outcome_at.ensures.path_named
 
 pub returns-in_ok-report_arrival-in-Ok-Fresh-clause-events_named : goal.returns-in_ok-report_arrival-in-Ok-Fresh-clause-events_named
 returns-in_ok-report_arrival-in-Ok-Fresh-clause-events_named g c = ok-anyway _ c.outcome_at.result
@@ -178,7 +178,7 @@ pub child_fault-requires : goal.child_fault-requires
 child_fault-requires g c = record {
   at = subst (λ xs. c.args.at < length xs) (sym c.in-Err.ensures.refused)
       (slice_get_within _ _ c.requires.turn.pair c.requires.turn.is_pair);
-  named = subst (λ t. IsNamedIn t c.args.a.now) (sym c.child.ensures.task) c.requires.named;
+  named = subst (λ t. IsNamedIn t c.args.a.now) (sym c.child.ensures.same.task) c.requires.named;
 }
 
 pub returns-in-Err-clause-fault : goal.returns-in-Err-clause-fault
@@ -193,4 +193,5 @@ returns-in-Err-clause-ticked g c = ticked-child _ c.args.self.now.within c.args.
     c.args.steps.now c.child.new.steps refl c.child.ensures.ticks c.child.ensures.arrival c.child.ensures.refused
 
 pub returns-in-Err-clause-path_named : goal.returns-in-Err-clause-path_named
-returns-in-Err-clause-path_named g c = subst (λ t. FaultIsNamed t c.child_fault.result) c.child.ensures.task c.child_fault.ensures.named
+returns-in-Err-clause-path_named g c = subst (λ t. FaultIsNamed t c.child_fault.result) c.child.ensures.same.task
+    c.child_fault.ensures.named

@@ -5,13 +5,13 @@ use Rattle.tl_search.specs.Calls.{AreNamedIn}
 use Rattle.tl_search.specs.NamedAnswers.{EventsAreNamed}
 use Rattle.tl_breadth.specs.Outcomes.{IsSearching, GrowsBy}
 use Rattle.tl_breadth.specs.Events.{IsReported}
+use Rattle.tl_search.specs.SameTask.{HasSameTask}
 use Rattle.tl_breadth.proofs.levels.BreadthFirst.expand.Given as goal
 
 -- the actions so far were tried, and the kept pairs have grown by pairs of the next level
 abbrev pub invariant-loop-a : goal.invariant-loop-a
 invariant-loop-a g l = record {
-  task : g.S.SearchSpace.task l.space ≡ g.S.SearchSpace.task l.fn.space;
-  problem : g.S.SearchSpace.problem l.space ≡ g.S.SearchSpace.problem l.fn.space;
+  same : HasSameTask g.S.SearchSpace.task g.S.SearchSpace.problem l.fn.space l.space;
   listed_named : AreNamedIn (g.S.SearchSpace.task l.fn.space) l.a-items;
   events_named : EventsAreNamed (g.S.SearchSpace.task l.fn.space) l.events;
   lists : (x : KeptPair) → slice_get (g.S.SearchSpace.kept l.fn.space) l.at ≡ Some x →

@@ -16,7 +16,7 @@ use Rattle.tl_breadth.proofs.levels.BreadthFirst.outcome.Goals as goal
 
 pub outcome_at-requires : goal.outcome_at-requires
 outcome_at-requires g c = subst (λ p. AwaitsJudgement p c.args.self.now.within c.args.self.now.nodes
-    (g.S.SearchSpace.kept c.root.new.self) c.in-Ok-Fresh.k) (sym c.root.ensures.problem)
+    (g.S.SearchSpace.kept c.root.new.self) c.in-Ok-Fresh.k) (sym c.root.ensures.same.problem)
     (root-awaits _ _ _ _ (g.S.SearchSpace.kept c.root.new.self) c.in-Ok-Fresh.k c.requires.empty
     (rw c.in-Ok-Fresh.field-0-is at c.in-Ok-Fresh.ensures.arrival) c.requires.nodes)
 
@@ -25,7 +25,7 @@ returns-in-Some-clause-outcome g c =
     subst (λ xs. IsBreadthFirstOutcome (g.S.SearchSpace.problem c.args.space.now) c.args.self.now.within c.args.self.now.nodes xs
     c.in-Some.outcome) (sym c.outcome_at.ensures.kept)
     (subst (λ p. IsBreadthFirstOutcome p c.args.self.now.within c.args.self.now.nodes
-    (g.S.SearchSpace.kept c.root.new.self) c.in-Some.outcome) c.root.ensures.problem
+    (g.S.SearchSpace.kept c.root.new.self) c.in-Some.outcome) c.root.ensures.same.problem
     (rw c.in-Some.is at c.in_ok-outcome-in-Ok-Fresh.ensures.outcome))
 
 pub returns-in-Ok-Pruned-clause-outcome : goal.returns-in-Ok-Pruned-clause-outcome
@@ -35,7 +35,8 @@ returns-in-Ok-Pruned-clause-outcome g c = root-pruned _ c.args.self.now.within _
 pub returns-clause-outcome : goal.returns-clause-outcome
 returns-clause-outcome g c =
     subst (λ p. IfOk c.all_levels.result (IsBreadthFirstOutcome p c.args.self.now.within c.args.self.now.nodes
-    (g.S.SearchSpace.kept c.all_levels.new.space))) (c.outcome_at.ensures.problem ∙ c.root.ensures.problem) c.all_levels.ensures.outcome
+    (g.S.SearchSpace.kept c.all_levels.new.space))) (c.outcome_at.ensures.same.problem ∙ c.root.ensures.same.problem)
+    c.all_levels.ensures.outcome
 
 pub returns-in-Some-clause-reported : goal.returns-in-Some-clause-reported
 returns-in-Some-clause-reported g c =
@@ -79,7 +80,7 @@ returns-clause-reported g c =
     (c.in_ok-report_root-in-Ok-Fresh.ensures ∙ ap (λ es. events_after w es event.RootKept) c.requires.events)))
     (subst (λ q. IfOk c.all_levels.result (λ o. (k : ℕ) → IsReported q n w k kept 0 [] later from →
     HasReported q n w k new c.all_levels.new.events c.all_levels.new.steps o))
-    (c.outcome_at.ensures.problem ∙ c.root.ensures.problem) c.all_levels.ensures.reported)
+    (c.outcome_at.ensures.same.problem ∙ c.root.ensures.same.problem) c.all_levels.ensures.reported)
 
 pub returns-in-Some-clause-ends : goal.returns-in-Some-clause-ends
 returns-in-Some-clause-ends g c =
@@ -103,7 +104,7 @@ returns-clause-ticked g c =
     let from = c.args.steps.now in
     err-map _ _ c.all_levels.result
     (λ t. subst (λ q. Ticks q n w kept new 0 later from c.all_levels.new.steps)
-    (c.outcome_at.ensures.problem ∙ c.root.ensures.problem) t from
+    (c.outcome_at.ensures.same.problem ∙ c.root.ensures.same.problem) t from
     (subst (λ xs. IsReported (g.S.SearchSpace.problem c.args.space.now) n w from xs 0 [] later from) (sym c.outcome_at.ensures.kept)
     (report-root (g.S.SearchSpace.problem c.args.space.now) n w from _
     (g.S.SearchSpace.kept c.root.new.self) c.in-Ok-Fresh.k later c.requires.empty
@@ -120,7 +121,7 @@ all_levels-requires-clause-events g c = events-named (g.S.SearchSpace.task c.out
     ap (λ es. events_after c.args.self.now.watch es event.RootKept) c.requires.events)
 
 pub returns-in-Some-clause-plan_named : goal.returns-in-Some-clause-plan_named
-returns-in-Some-clause-plan_named g c = subst (λ t. OutcomeIsNamed t c.in-Some.outcome) c.root.ensures.task
+returns-in-Some-clause-plan_named g c = subst (λ t. OutcomeIsNamed t c.in-Some.outcome) c.root.ensures.same.task
     (rw c.in-Some.is at c.in_ok-outcome-in-Ok-Fresh.ensures.plan_named)
 
 pub returns-in-Some-clause-events_named : goal.returns-in-Some-clause-events_named
@@ -135,15 +136,15 @@ returns-in-Ok-Pruned-clause-events_named g c = events-named (g.S.SearchSpace.tas
 
 pub returns-clause-plan_named : goal.returns-clause-plan_named
 returns-clause-plan_named g c = subst (λ t. IfOk c.all_levels.result (OutcomeIsNamed t))
-    (c.outcome_at.ensures.task ∙ c.root.ensures.task) c.all_levels.ensures.plan_named
+    (c.outcome_at.ensures.same.task ∙ c.root.ensures.same.task) c.all_levels.ensures.plan_named
 
 pub returns-clause-path_named : goal.returns-clause-path_named
 returns-clause-path_named g c = subst (λ t. IfErr c.all_levels.result (FaultIsNamed t))
-    (c.outcome_at.ensures.task ∙ c.root.ensures.task) c.all_levels.ensures.path_named
+    (c.outcome_at.ensures.same.task ∙ c.root.ensures.same.task) c.all_levels.ensures.path_named
 
 pub returns-clause-events_named : goal.returns-clause-events_named
 returns-clause-events_named g c = subst (λ t. OnOk c.all_levels.result (EventsAreNamed t c.all_levels.new.events))
-    (c.outcome_at.ensures.task ∙ c.root.ensures.task) c.all_levels.ensures.events_named
+    (c.outcome_at.ensures.same.task ∙ c.root.ensures.same.task) c.all_levels.ensures.events_named
 
 pub root_fault-requires : goal.root_fault-requires
 root_fault-requires g c = root-of-pair _ c.in-Err.fault c.in-Err.ensures.cause

@@ -21,7 +21,7 @@ returns-in_ok-plan-in-Ok-true-clause-last g c = judged-last _ c.args.self.now.wi
     (subst (λ xs. slice_get xs c.args.k ≡ Some x) (sym c.accepted.ensures.kept) e))
 
 pub returns-in_ok-plan-in-Ok-true-clause-plan_named : goal.returns-in_ok-plan-in-Ok-true-clause-plan_named
-returns-in_ok-plan-in-Ok-true-clause-plan_named g c = subst (λ t. AreNamedIn t c.in_ok-plan-in-Ok-true.plan) c.accepted.ensures.task
+returns-in_ok-plan-in-Ok-true-clause-plan_named g c = subst (λ t. AreNamedIn t c.in_ok-plan-in-Ok-true.plan) c.accepted.ensures.same.task
     c.in_ok-plan-in-Ok-true.ensures.named
 
 pub returns-in-Ok-false-clause-outcome : goal.returns-in-Ok-false-clause-outcome
@@ -40,5 +40,5 @@ returns-in-Err-clause-fault g c =
     c.in-Err.ensures.cause
 
 pub returns-in-Err-clause-path_named : goal.returns-in-Err-clause-path_named
-returns-in-Err-clause-path_named g c = subst (λ t. FaultIsNamed t c.search_node_fault.result) c.accepted.ensures.task
+returns-in-Err-clause-path_named g c = subst (λ t. FaultIsNamed t c.search_node_fault.result) c.accepted.ensures.same.task
     c.search_node_fault.ensures.named
