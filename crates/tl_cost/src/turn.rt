@@ -3,6 +3,7 @@ ghost use Rattle.std.specs.Prelude.{◌≡◌, ◌≤◌, ◌<◌, ◌+◌, List
 ghost use Rattle.tl_syntax.specs.declared.action.Action.{Action};
 ghost use Rattle.tl_search.specs.Calls.{IsExecutableAt};
 ghost use Rattle.tl_search.specs.NamedAnswers.{IsNamedIn, FaultIsNamed};
+ghost use Rattle.tl_search.specs.SameTask.{HasSameTask};
 ghost use Rattle.tl_cost.specs.Ongoing.{HasAction, IsBetweenTurns, IsInTurn, IsTriedAt};
 ghost use Rattle.tl_cost.specs.Outcomes.{EndIsNamed, IsCheapestFault, IsUnaccepted, Leaves, OpensUnlessSpent, OpensIfNone, SpentOr, TellsWay, TellsWayOn};
 ghost use Rattle.tl_cost.specs.Ticks.{Extends, StaySettled, TicksTurn};
@@ -42,8 +43,7 @@ impl UniformCost<'_> {
         requires turn { IsInTurn (S.problem space.old) (S.task space.old)
             self.now.costs.now self.now.nodes (S.kept space.old) found.old at None }
         requires nodes { self.now.nodes ≤ 100000 }
-        ensures task { S.task space.new ≡ S.task space.old }
-        ensures problem { S.problem space.new ≡ S.problem space.old }
+        ensures same { HasSameTask S.task S.problem space.old space.new }
         ensures outcome { IfOk result (Leaves (S.problem space.old)
             self.now.costs.now self.now.nodes (S.kept space.new)
             (IsBetweenTurns (S.problem space.old) (S.task space.old)
@@ -89,8 +89,7 @@ impl UniformCost<'_> {
             self.now.costs.now self.now.nodes (S.kept space.old) found.old at None }
         requires unaccepted { IsUnaccepted (S.problem space.old) (S.kept space.old) at }
         requires nodes { self.now.nodes ≤ 100000 }
-        ensures task { S.task space.new ≡ S.task space.old }
-        ensures problem { S.problem space.new ≡ S.problem space.old }
+        ensures same { HasSameTask S.task S.problem space.old space.new }
         ensures outcome { IfOk result (SpentOr (S.problem space.old)
             self.now.costs.now self.now.nodes (S.kept space.new)
             (IsInTurn (S.problem space.old) (S.task space.old)
@@ -133,8 +132,7 @@ impl UniformCost<'_> {
         requires executable { IsExecutableAt (S.problem space.old) (S.kept space.old) at a.now }
         requires named { IsNamedIn (S.task space.old) a.now }
         requires nodes { self.now.nodes ≤ 100000 }
-        ensures task { S.task space.new ≡ S.task space.old }
-        ensures problem { S.problem space.new ≡ S.problem space.old }
+        ensures same { HasSameTask S.task S.problem space.old space.new }
         ensures outcome { IfOk result (SpentOr (S.problem space.old)
             self.now.costs.now self.now.nodes (S.kept space.new)
             (IsTriedAt (S.problem space.old) (S.task space.old) self.now.costs.now self.now.nodes

@@ -1,6 +1,7 @@
 // The search for a cheapest plan as its callers see it.
 ghost use Rattle.std.specs.Prelude.{◌≡◌, ◌≤◌, [], IfOk, IfErr};
 ghost use Rattle.tl_search.specs.NamedAnswers.{FaultIsNamed};
+ghost use Rattle.tl_search.specs.SameTask.{HasSameTask};
 ghost use Rattle.tl_cost.specs.Ongoing.{IsBetweenTurns};
 ghost use Rattle.tl_cost.specs.Outcomes.{AnswersWhereCalm, CostOutcomeIsNamed, IsCheapestFault, IsCheapestOutcome};
 ghost use Rattle.tl_cost.specs.Ticks.{IsTickedByTurns, TicksRest};
@@ -24,8 +25,7 @@ impl UniformCost<'_> {
         requires empty { S.kept space.old ≡ [] }
         requires some_nodes { 1 ≤ self.now.nodes }
         requires nodes { self.now.nodes ≤ 100000 }
-        ensures task { S.task space.new ≡ S.task space.old }
-        ensures problem { S.problem space.new ≡ S.problem space.old }
+        ensures same { HasSameTask S.task S.problem space.old space.new }
         ensures outcome { IfOk result (IsCheapestOutcome (S.problem space.old)
             self.now.costs.now self.now.nodes (S.kept space.new)) }
         ensures steps { IsTickedByTurns (S.problem space.old) steps.old (S.kept space.new)
@@ -58,8 +58,7 @@ impl UniformCost<'_> {
         requires between { IsBetweenTurns (S.problem space.old) (S.task space.old)
             self.now.costs.now self.now.nodes (S.kept space.old) found.old }
         requires nodes { self.now.nodes ≤ 100000 }
-        ensures task { S.task space.new ≡ S.task space.old }
-        ensures problem { S.problem space.new ≡ S.problem space.old }
+        ensures same { HasSameTask S.task S.problem space.old space.new }
         ensures outcome { IfOk result (IsCheapestOutcome (S.problem space.old)
             self.now.costs.now self.now.nodes (S.kept space.new)) }
         ensures steps { TicksRest (S.problem space.old) (S.kept space.old) (S.kept space.new)
@@ -92,8 +91,7 @@ pub fn cheapest<S: SearchSpace, L: Ledger>(
     requires empty { S.kept space.old ≡ [] }
     requires some_nodes { 1 ≤ nodes }
     requires nodes { nodes ≤ 100000 }
-    ensures task { S.task space.new ≡ S.task space.old }
-    ensures problem { S.problem space.new ≡ S.problem space.old }
+    ensures same { HasSameTask S.task S.problem space.old space.new }
     ensures outcome { IfOk result
         (IsCheapestOutcome (S.problem space.old) costs.now nodes (S.kept space.new)) }
     ensures steps { IsTickedByTurns (S.problem space.old) steps.old (S.kept space.new) steps.new }

@@ -13,7 +13,7 @@ returns-then-k-self-clause-outcome g c =
     let t = c.requires.turn.turn in
     let new = g.S.SearchSpace.kept c.child.new.self in
     fresh-spent _ _ _ _ _ _ _ _ _ t new c.in-Ok-Fresh.k ((rw c.in-Ok-Fresh.field-0-is at c.in-Ok-Fresh.ensures.arrival) t.pair t.is_at.pair)
-    (subst (λ p. AreKept (pair_graph p) new) c.child.ensures.problem c.child.ensures.kept) c.if-k-self.true
+    (subst (λ p. AreKept (pair_graph p) new) c.child.ensures.same.problem c.child.ensures.kept) c.if-k-self.true
 
 pub returns-then-k-self-clause-grows : goal.returns-then-k-self-clause-grows
 returns-then-k-self-clause-grows g c =
@@ -68,7 +68,7 @@ returns-in_ok-add-in-Ok-Fresh-clause-outcome g c rest t =
     fresh-turn _ _ _ _ _ _ _ _ rest t new c.in-Ok-Fresh.k ((rw c.in-Ok-Fresh.field-0-is at c.in-Ok-Fresh.ensures.arrival) t.pair
     t.is_at.pair) c.add.new.self c.in_ok-way-in-Ok-Fresh.way c.in_ok-add-in-Ok-Fresh.ensures.ways c.in_ok-add-in-Ok-Fresh.ensures.adds
     (c.in_ok-way-in-Ok-Fresh.ensures t.way t.is_at.way)
-    (subst (λ p. AreKept (pair_graph p) new) c.child.ensures.problem c.child.ensures.kept) c.if-k-self.false
+    (subst (λ p. AreKept (pair_graph p) new) c.child.ensures.same.problem c.child.ensures.kept) c.if-k-self.false
     c.in_ok-add-in-Ok-Fresh.ensures.len c.requires.named
 
 pub returns-in_ok-add-in-Ok-Fresh-clause-stay : goal.returns-in_ok-add-in-Ok-Fresh-clause-stay
@@ -86,7 +86,7 @@ returns-in_ok-meet-in-Ok-Seen-clause-outcome g c rest t =
     let h = (rw c.in-Ok-Seen.field-0-is at c.in-Ok-Seen.ensures.arrival) t.pair t.is_at.pair in
     let u = its-way _ _ _ _ _ _ _ _ rest t new c.in-Ok-Seen.k h in
     seen-turn _ _ _ _ _ _ _ _ rest t new c.in-Ok-Seen.k h c.meet.new.found (c.in_ok-meet-in-Ok-Seen.ensures t.way u.0 t.is_at.way u.1)
-    (subst (λ p. AreKept (pair_graph p) new) c.child.ensures.problem c.child.ensures.kept) c.requires.named
+    (subst (λ p. AreKept (pair_graph p) new) c.child.ensures.same.problem c.child.ensures.kept) c.requires.named
 
 pub returns-in_ok-meet-in-Ok-Seen-clause-opens : goal.returns-in_ok-meet-in-Ok-Seen-clause-opens
 returns-in_ok-meet-in-Ok-Seen-clause-opens g c =

@@ -1,4 +1,4 @@
-use Rattle.std.proofs.Common.{◌≡◌, ◌+◌, length, slice_get, Some, refl, sym, ap, ◌∙◌, subst, arith}
+use Rattle.std.proofs.Common.{◌≡◌, ◌+◌, length, slice_get, Some, refl, sym, ap, subst, arith}
 use Rattle.std.proofs.lemmas.Option.{slice_get_read}
 use Rattle.tl_syntax.proofs.ListLaws.{Each-Among}
 use Rattle.tl_search.specs.Calls.{AreNamedIn, IsExecutableAt}
@@ -10,6 +10,7 @@ use Rattle.tl_cost.specs.Ways.{listed_len}
 use Rattle.tl_cost.proofs.Expanding.{turn-begins, turn-next, turn-ends, listed-executable, opens-on}
 use Rattle.tl_cost.proofs.Faulting.{fault-acting, fault-named, turn-linked}
 use Rattle.tl_cost.proofs.Ticking.{ticks-listed, ticks-none}
+use Rattle.tl_search.proofs.SameTaskLaws.{same-task-after}
 use Rattle.tl_cost.proofs.turn.UniformCost.expand.Goals as goal
 
 pub arrive-requires : goal.arrive-requires
@@ -21,13 +22,13 @@ arrive-requires g c =
     let new = g.S.SearchSpace.kept c.loop-a.space in
     record {
       turn = subst (λ p. HasAction p (g.S.SearchSpace.task c.loop-a.space) c.args.self.now.costs.now c.args.self.now.nodes new
-          c.loop-a.found c.args.at c.a-item.result) (sym i.problem)
+          c.loop-a.found c.args.at c.a-item.result) (sym i.same.problem)
           (subst (λ t. HasAction (g.S.SearchSpace.problem c.args.space.now) t c.args.self.now.costs.now c.args.self.now.nodes new
-          c.loop-a.found c.args.at c.a-item.result) (sym i.task)
+          c.loop-a.found c.args.at c.a-item.result) (sym i.same.task)
           (record { rest = _; turn = turn-next _ _ _ _ _ _ _ items c.loop-a.a-index i.turn c.a-item.result e }));
-      executable = subst (λ p. IsExecutableAt p new c.args.at c.a-item.result) (sym i.problem)
+      executable = subst (λ p. IsExecutableAt p new c.args.at c.a-item.result) (sym i.same.problem)
           (listed-executable _ _ new c.args.at c.loop-a.a-index c.a-item.result items r.pair r.is_at.pair i.grows i.lists e);
-      named = subst (λ t. IsNamedIn t c.a-item.result) (sym i.task) ((Each-Among
+      named = subst (λ t. IsNamedIn t c.a-item.result) (sym i.same.task) ((Each-Among
           (IsNamedIn (g.S.SearchSpace.task c.args.space.now)) items).0 i.listed_named c.a-item.result
           (among-at items c.loop-a.a-index c.a-item.result e));
       nodes = c.requires.nodes;
@@ -37,8 +38,7 @@ pub loop-a-init : goal.loop-a-init
 loop-a-init g c =
     let old = g.S.SearchSpace.kept c.args.space.now in
     record {
-      task = c.actions.ensures.task;
-      problem = c.actions.ensures.problem;
+      same = c.actions.ensures.same;
       listed_named = subst (AreNamedIn (g.S.SearchSpace.task c.args.space.now)) (sym c.as_slice-a-items.ensures) c.in-Ok.ensures.named;
       lists = λ x e. subst (ListsActions (g.S.SearchSpace.problem c.args.space.now) x.node.world) (sym c.as_slice-a-items.ensures)
           (c.in-Ok.ensures.actions x e);
@@ -60,14 +60,13 @@ loop-a-preserved g c =
     let new = g.S.SearchSpace.kept c.arrive.new.space in
     let told = rw c.if-branch.false at c.in_ok-arrive.ensures in
     record {
-      task = c.arrive.ensures.task ∙ i.task;
-      problem = c.arrive.ensures.problem ∙ i.problem;
+      same = same-task-after c.arrive.ensures.same i.same;
       listed_named = i.listed_named;
       lists = i.lists;
       turn = subst (λ p. IsTriedAt p (g.S.SearchSpace.task c.args.space.now) c.args.self.now.costs.now c.args.self.now.nodes old new
-          c.loop-a.found c.arrive.new.found c.args.at c.a-item.result) i.problem
+          c.loop-a.found c.arrive.new.found c.args.at c.a-item.result) i.same.problem
           (subst (λ t. IsTriedAt (g.S.SearchSpace.problem c.loop-a.space) t c.args.self.now.costs.now c.args.self.now.nodes old new
-          c.loop-a.found c.arrive.new.found c.args.at c.a-item.result) i.task told.outcome) _
+          c.loop-a.found c.arrive.new.found c.args.at c.a-item.result) i.same.task told.outcome) _
           (turn-next _ _ _ _ _ _ _ items c.loop-a.a-index i.turn c.a-item.result e);
       grows = λ k x f. c.arrive.ensures.grows k x (i.grows k x f);
       opens = opens-on (g.S.SearchSpace.kept c.args.space.now) old new c.args.found.now c.loop-a.found c.arrive.new.found i.opens
@@ -81,8 +80,7 @@ returns-in-Err-RangeHere g c =
     let t = c.requires.turn in
     let k = (rw c.in-Err-RangeHere.field-0-is at c.in-Err-RangeHere.ensures.cause) t.pair t.is_at.pair in
     record {
-      task = c.actions.ensures.task;
-      problem = c.actions.ensures.problem;
+      same = c.actions.ensures.same;
       outcome = tt;
       grows = λ i x e. subst (λ xs. slice_get xs i ≡ Some x) (sym c.actions.ensures.kept) e;
       opens = tt;
@@ -102,8 +100,7 @@ returns g c =
     let i = c.loop-a.invariant in
     let r = c.requires.turn in
     record {
-      task = i.task;
-      problem = i.problem;
+      same = i.same;
       outcome = turn-ends _ _ _ _ _ _ _ c.as_slice-a-items.result.now c.loop-a.a-index i.turn c.loop-a-test.false;
       grows = i.grows;
       opens = i.opens;

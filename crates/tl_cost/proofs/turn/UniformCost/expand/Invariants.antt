@@ -5,13 +5,13 @@ use Rattle.tl_search.specs.ListedActions.{ListsActions}
 use Rattle.tl_cost.specs.Ongoing.{IsInTurn}
 use Rattle.tl_cost.specs.Outcomes.{OpensAsMany}
 use Rattle.tl_cost.specs.Ticks.{Extends, StaySettled}
+use Rattle.tl_search.specs.SameTask.{HasSameTask}
 use Rattle.tl_cost.proofs.turn.UniformCost.expand.Given as goal
 
 -- the actions so far were tried, and those from here on are still to be tried
 abbrev pub invariant-loop-a : goal.invariant-loop-a
 invariant-loop-a g l = record {
-  task : g.S.SearchSpace.task l.space ≡ g.S.SearchSpace.task l.fn.space;
-  problem : g.S.SearchSpace.problem l.space ≡ g.S.SearchSpace.problem l.fn.space;
+  same : HasSameTask g.S.SearchSpace.task g.S.SearchSpace.problem l.fn.space l.space;
   listed_named : AreNamedIn (g.S.SearchSpace.task l.fn.space) l.a-items;
   lists : (x : KeptPair) → slice_get (g.S.SearchSpace.kept l.fn.space) l.at ≡ Some x →
       ListsActions (g.S.SearchSpace.problem l.fn.space) x.node.world l.a-items;

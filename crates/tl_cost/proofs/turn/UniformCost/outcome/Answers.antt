@@ -13,11 +13,11 @@ all_turns-requires g c =
     let old = g.S.SearchSpace.kept c.args.space.now in
     let new = g.S.SearchSpace.kept c.root.new.self in
     record {
-      between = between-same _ _ _ _ c.args.self.now.costs.now c.args.self.now.nodes new c.add.new.self c.root.ensures.problem
-          c.root.ensures.task
+      between = between-same _ _ _ _ c.args.self.now.costs.now c.args.self.now.nodes new c.add.new.self c.root.ensures.same.problem
+          c.root.ensures.same.task
           (root-between _ _ _ _ old new c.in-Ok-Fresh.field-0-0 c.new-found.result c.add.new.self c.at_root.result c.requires.empty
           (rw c.in-Ok-Fresh.field-0-is at c.in-Ok-Fresh.ensures.arrival)
-          (subst (λ p. AreKept (pair_graph p) new) c.root.ensures.problem c.root.ensures.kept) c.requires.some_nodes
+          (subst (λ p. AreKept (pair_graph p) new) c.root.ensures.same.problem c.root.ensures.kept) c.requires.some_nodes
           c.new-found.ensures.ways c.new-found.ensures.none c.new-found.ensures.len
           c.at_root.ensures c.in_ok-add-in-Ok-Fresh.ensures.ways c.in_ok-add-in-Ok-Fresh.ensures.adds c.in_ok-add-in-Ok-Fresh.ensures.len);
       nodes = c.requires.nodes;
@@ -29,8 +29,7 @@ unreachable-requires g c = root-not-seen _ (g.S.SearchSpace.kept c.root.new.self
 
 pub returns-in-Ok-Pruned : goal.returns-in-Ok-Pruned
 returns-in-Ok-Pruned g c = record {
-  task = c.root.ensures.task;
-  problem = c.root.ensures.problem;
+  same = c.root.ensures.same;
   outcome = root-pruned _ c.args.self.now.nodes _ (g.S.SearchSpace.kept c.root.new.self) c.requires.empty
       (rw c.in-Ok-Pruned.field-0-is at c.in-Ok-Pruned.ensures.arrival);
   steps = ticked-none _ _ (g.S.SearchSpace.kept c.root.new.self);
@@ -42,11 +41,11 @@ returns-in-Ok-Pruned g c = record {
 pub returns-in_ok-add-in-Ok-Fresh-clause-outcome : goal.returns-in_ok-add-in-Ok-Fresh-clause-outcome
 returns-in_ok-add-in-Ok-Fresh-clause-outcome g c = subst (λ p. IfOk c.all_turns.result
     (IsCheapestOutcome p c.args.self.now.costs.now c.args.self.now.nodes (g.S.SearchSpace.kept c.all_turns.new.space)))
-    c.root.ensures.problem c.all_turns.ensures.outcome
+    c.root.ensures.same.problem c.all_turns.ensures.outcome
 
 pub returns-in_ok-add-in-Ok-Fresh-clause-steps : goal.returns-in_ok-add-in-Ok-Fresh-clause-steps
 returns-in_ok-add-in-Ok-Fresh-clause-steps g c = subst (λ p. IsTickedByTurns p c.args.steps.now
-    (g.S.SearchSpace.kept c.all_turns.new.space) c.all_turns.new.steps) c.root.ensures.problem
+    (g.S.SearchSpace.kept c.all_turns.new.space) c.all_turns.new.steps) c.root.ensures.same.problem
     (c.all_turns.ensures.steps c.args.steps.now (counted-none (g.S.SearchSpace.problem c.root.new.self) c.args.steps.now
     (g.S.SearchSpace.kept c.root.new.self) c.add.new.self))
 

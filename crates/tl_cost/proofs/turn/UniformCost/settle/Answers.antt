@@ -19,9 +19,10 @@ expand-requires g c =
     let unaccepted : IsUnaccepted (g.S.SearchSpace.problem c.args.space.now) (g.S.SearchSpace.kept c.args.space.now) c.args.at = λ x e a.
     (let t : c.in-Ok-false.field-0 ≡ true = (c.in-Ok-false.ensures.accepted x e).1 a in let y = c.in-Ok-false.field-0-test in cc) in
     record {
-      turn = turn-same _ _ _ _ _ _ _ _ _ _ _ c.accepted.ensures.problem c.accepted.ensures.task c.accepted.ensures.kept c.requires.turn;
+      turn = turn-same _ _ _ _ _ _ _ _ _ _ _ c.accepted.ensures.same.problem c.accepted.ensures.same.task c.accepted.ensures.kept
+          c.requires.turn;
       unaccepted = λ x e a. unaccepted x (subst (λ xs. slice_get xs c.args.at ≡ Some x) c.accepted.ensures.kept e)
-          (subst (λ p. IsPairAccepted p x.node) c.accepted.ensures.problem a);
+          (subst (λ p. IsPairAccepted p x.node) c.accepted.ensures.same.problem a);
       nodes = c.requires.nodes;
     }
 
@@ -34,8 +35,7 @@ returns-in_ok-plan-in-Ok-true g c =
     slice_get_read _ _ c.args.at c.index.result.now refl (turn-inside _ _ _ _ _ _ _ _ t) c.index.ensures in
     let accepted : IsPairAccepted p t.pair.node = (c.in-Ok-true.ensures.accepted t.pair t.is_at.pair).0 c.in-Ok-true.field-0-test in
     record {
-      task = c.accepted.ensures.task;
-      problem = c.accepted.ensures.problem;
+      same = c.accepted.ensures.same;
       outcome = (
         subst (λ (w : Way). IsCheapestPlan p c.args.self.now.costs.now c.in_ok-plan-in-Ok-true.plan w.cost)
             (get-one c.args.found.now.ways.items c.args.at t.way c.index.result.now t.is_at.way e)
@@ -61,8 +61,7 @@ returns-in-Err-RangeHere g c =
     let t = c.requires.turn in
     let k = (rw c.in-Err-RangeHere.field-0-is at c.in-Err-RangeHere.ensures.cause) t.pair t.is_at.pair in
     record {
-      task = c.accepted.ensures.task;
-      problem = c.accepted.ensures.problem;
+      same = c.accepted.ensures.same;
       outcome = tt;
       grows = λ i x e. subst (λ xs. slice_get xs i ≡ Some x) (sym c.accepted.ensures.kept) e;
       opens = tt;
