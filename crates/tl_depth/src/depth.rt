@@ -2,6 +2,7 @@
 ghost use Rattle.std.specs.Prelude.{◌≡◌, ◌≤◌, [], IfOk, IfErr};
 ghost use Rattle.tl_search.specs.NamedAnswers.{FaultIsNamed};
 ghost use Rattle.tl_search.specs.Reports.{BeginsRightly, PrunesRightly, ReportIsNamed, AnswersWhereCalm};
+ghost use Rattle.tl_search.specs.SameTask.{HasSameTask};
 ghost use Rattle.tl_depth.specs.Outcomes.{IsDepthFirstFault};
 ghost use Rattle.tl_depth.specs.Reports.{IsDepthFirstReport, AreFewSteps, ReportsHistory, TellsOutcome, EndsRightly};
 
@@ -27,8 +28,7 @@ pub fn search<S: SearchSpace, L: Ledger>(
     requires within { within ≤ 100000 }
     requires some_nodes { 1 ≤ nodes }
     requires nodes { nodes ≤ 100000 }
-    ensures task { S.task space.new ≡ S.task space.old }
-    ensures problem { S.problem space.new ≡ S.problem space.old }
+    ensures same { HasSameTask S.task S.problem space.old space.new }
     ensures outcome { IfOk result (IsDepthFirstReport (S.problem space.old) within nodes (S.kept space.new)) }
     ensures steps { AreFewSteps (S.problem space.old) within (S.kept space.new) steps.old steps.new }
     ensures reported { IfOk result (ReportsHistory (S.problem space.old) watch (S.kept space.new)) }

@@ -1,5 +1,5 @@
 // Lists of actions that take little memory.
-ghost use Rattle.std.specs.Prelude.{◌≡◌, ◌<◌, ◌+◌, ◌^◌, ◌↔◌, length, slice_get, Some, true, IfOk, IfSome, OnOk};
+ghost use Rattle.std.specs.Prelude.{◌≡◌, ◌<◌, ◌+◌, ◌^◌, ◌↔◌, length, slice_get, Some, IfOk, IfSome, OnOk, IsTrue};
 ghost use Rattle.tl_depth.specs.Packed.{value_of, IsCodeOf, Lengthens, AddsCodes, PacksOneMore};
 
 use std::alloc::Global;
@@ -47,7 +47,7 @@ impl Model for PackedActions {
 
 /// Whether the two are the same value. It takes no memory.
 fn is_same(left: Value, right: Value) -> bool
-    ensures { (result ≡ true) ↔ (left ≡ right) }
+    ensures { IsTrue result ↔ (left ≡ right) }
 {
     left == right
 }

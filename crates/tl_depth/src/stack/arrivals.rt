@@ -10,6 +10,7 @@ ghost use Rattle.tl_depth.specs.Outcomes.{IsDepthFirstFault};
 ghost use Rattle.tl_depth.specs.Ongoing.{IsEntered, IsEntryFault, Judged};
 ghost use Rattle.tl_depth.specs.Turns.{HasArrived, TurnsBy};
 ghost use Rattle.tl_search.specs.declared.arrival.Arrival.TheVariants as arrival;
+ghost use Rattle.tl_search.specs.SameTask.{HasSameTask};
 
 use crate::level::Level;
 use crate::packed::PackedActions;
@@ -31,8 +32,7 @@ impl DepthFirst {
         requires arrived { HasArrived (S.problem space.old) nodes (S.kept space.old) self.old arrival left }
         requires named { SearchIsNamed (S.task space.old) self.old }
         requires remembered { Remembers (S.problem space.old) (S.task space.old) (S.kept space.old) self.old.expansions }
-        ensures task { S.task space.new ≡ S.task space.old }
-        ensures problem { S.problem space.new ≡ S.problem space.old }
+        ensures same { HasSameTask S.task S.problem space.old space.new }
         ensures kept { S.kept space.new ≡ S.kept space.old }
         ensures events { self.new.events ≡ self.old.events }
         ensures ends { IfOk result (EndsBy self.old.watch (S.kept space.old) self.old.events arrival) }
@@ -89,8 +89,7 @@ impl DepthFirst {
         requires arrived { HasArrived (S.problem space.old) nodes (S.kept space.old) self.old (arrival.Seen k) left }
         requires named { SearchIsNamed (S.task space.old) self.old }
         requires remembered { Remembers (S.problem space.old) (S.task space.old) (S.kept space.old) self.old.expansions }
-        ensures task { S.task space.new ≡ S.task space.old }
-        ensures problem { S.problem space.new ≡ S.problem space.old }
+        ensures same { HasSameTask S.task S.problem space.old space.new }
         ensures kept { S.kept space.new ≡ S.kept space.old }
         ensures events { self.new.events ≡ self.old.events }
         ensures turned { OnOk result (TurnsBy (S.problem space.old) nodes (S.kept space.old)
@@ -126,8 +125,7 @@ impl DepthFirst {
         requires refused { Judged (S.problem space.old) nodes (pairs_of (S.kept space.old)) self.old k left None }
         requires named { SearchIsNamed (S.task space.old) self.old }
         requires remembered { Remembers (S.problem space.old) (S.task space.old) (S.kept space.old) self.old.expansions }
-        ensures task { S.task space.new ≡ S.task space.old }
-        ensures problem { S.problem space.new ≡ S.problem space.old }
+        ensures same { HasSameTask S.task S.problem space.old space.new }
         ensures kept { S.kept space.new ≡ S.kept space.old }
         ensures events { self.new.events ≡ self.old.events }
         ensures turned { OnOk result (TurnsBy (S.problem space.old) nodes (S.kept space.old)
@@ -160,8 +158,7 @@ impl DepthFirst {
     ) -> Result<Option<Outcome>, SearchFault>
         requires arrived { HasArrived (S.problem space.old) nodes (S.kept space.old) self.now (arrival.Fresh k) left }
         requires named { SearchIsNamed (S.task space.old) self.now }
-        ensures task { S.task space.new ≡ S.task space.old }
-        ensures problem { S.problem space.new ≡ S.problem space.old }
+        ensures same { HasSameTask S.task S.problem space.old space.new }
         ensures kept { S.kept space.new ≡ S.kept space.old }
         ensures judged { IfOk result (Judged (S.problem space.old) nodes (pairs_of (S.kept space.old)) self.now k left) }
         ensures fault { IfErr result (IsDepthFirstFault (S.problem space.old) self.now.within) }
@@ -192,8 +189,7 @@ impl DepthFirst {
         requires at { at < length (S.kept space.old) }
         requires named { SearchIsNamed (S.task space.old) self.old }
         requires remembered { Remembers (S.problem space.old) (S.task space.old) (S.kept space.old) self.old.expansions }
-        ensures task { S.task space.new ≡ S.task space.old }
-        ensures problem { S.problem space.new ≡ S.problem space.old }
+        ensures same { HasSameTask S.task S.problem space.old space.new }
         ensures kept { S.kept space.new ≡ S.kept space.old }
         ensures entered { OnOk result (IsEntered (S.problem space.old) (pairs_of (S.kept space.old))
             at left self.old.stack.items self.new.stack.items) }
@@ -230,8 +226,7 @@ impl DepthFirst {
         requires at { at < length (S.kept space.old) }
         requires named { SearchIsNamed (S.task space.old) self.old }
         requires remembered { Remembers (S.problem space.old) (S.task space.old) (S.kept space.old) self.old.expansions }
-        ensures task { S.task space.new ≡ S.task space.old }
-        ensures problem { S.problem space.new ≡ S.problem space.old }
+        ensures same { HasSameTask S.task S.problem space.old space.new }
         ensures kept { S.kept space.new ≡ S.kept space.old }
         ensures listed { IfOk result (IsListed (S.problem space.old) (S.task space.old) (S.kept space.old) at) }
         ensures rest { self.new ≡ record self.old { expansions = self.new.expansions } }

@@ -6,6 +6,7 @@ ghost use Rattle.tl_depth.specs.NamedStacks.{SearchIsNamed};
 ghost use Rattle.tl_search.specs.Kept.{AreKept};
 ghost use Rattle.tl_search.specs.PairGraph.{pair_graph};
 ghost use Rattle.tl_search.specs.Ends.{EndsIfAny};
+ghost use Rattle.tl_search.specs.SameTask.{HasSameTask};
 ghost use Rattle.tl_depth.specs.Endings.{KeepsLast};
 ghost use Rattle.tl_depth.specs.Outcomes.{IsDepthFirstFault};
 ghost use Rattle.tl_depth.specs.Ongoing.{IsTop};
@@ -30,8 +31,7 @@ impl DepthFirst {
         requires some { 0 < length self.old.stack.items }
         requires named { SearchIsNamed (S.task space.old) self.old }
         requires remembered { Remembers (S.problem space.old) (S.task space.old) (S.kept space.old) self.old.expansions }
-        ensures task { S.task space.new ≡ S.task space.old }
-        ensures problem { S.problem space.new ≡ S.problem space.old }
+        ensures same { HasSameTask S.task S.problem space.old space.new }
         ensures turned { IfOk result (Turns (S.problem space.old) nodes (S.kept space.old) (S.kept space.new)
             self.old self.new steps.old steps.new) }
         ensures calls { CallsStayFew (S.problem space.old) nodes (S.kept space.old) (S.kept space.new)
@@ -71,8 +71,7 @@ impl DepthFirst {
         requires top { IsTop self.old.stack.items left }
         requires named { SearchIsNamed (S.task space.old) self.old }
         requires remembered { Remembers (S.problem space.old) (S.task space.old) (S.kept space.old) self.old.expansions }
-        ensures task { S.task space.new ≡ S.task space.old }
-        ensures problem { S.problem space.new ≡ S.problem space.old }
+        ensures same { HasSameTask S.task S.problem space.old space.new }
         ensures arrived { IfOk result (TriesTop (S.problem space.old) nodes (S.kept space.old) (S.kept space.new)
             self.old self.new left) }
         ensures calls { OneCallStaysFew (S.problem space.old) nodes (S.kept space.old) (S.kept space.new) self.old }
@@ -111,8 +110,7 @@ impl DepthFirst {
         requires ongoing { SearchGoesOn (S.problem space.old) nodes (S.kept space.old) self.old }
         requires top { IsTop self.old.stack.items left }
         requires named { SearchIsNamed (S.task space.old) self.old }
-        ensures task { S.task space.new ≡ S.task space.old }
-        ensures problem { S.problem space.new ≡ S.problem space.old }
+        ensures same { HasSameTask S.task S.problem space.old space.new }
         ensures arrived { IfOk result (TriesTop (S.problem space.old) nodes (S.kept space.old) (S.kept space.new)
             self.old self.new left) }
         ensures calls { OneCallStaysFew (S.problem space.old) nodes (S.kept space.old) (S.kept space.new) self.old }

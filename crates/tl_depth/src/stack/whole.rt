@@ -1,11 +1,12 @@
 // The search from its first search node on until nothing is left to expand.
-ghost use Rattle.std.specs.Prelude.{◌≡◌, ◌≤◌, ℕ, [], slice_get, Some, None, true, false, IfOk, IfErr, OnOk};
+ghost use Rattle.std.specs.Prelude.{◌≡◌, ◌≤◌, ℕ, [], slice_get, Some, None, IsTrue, false, IfOk, IfErr, OnOk};
 ghost use Rattle.tl_search.specs.KeptPairs.{pairs_of};
 ghost use Rattle.tl_search.specs.NamedAnswers.{OutcomeIsNamed, EndIsNamed, FaultIsNamed, EventsAreNamed};
 ghost use Rattle.tl_depth.specs.Expansions.{Remembers};
 ghost use Rattle.tl_depth.specs.NamedStacks.{SearchIsNamed, EndsUnnamed};
 ghost use Rattle.tl_search.specs.History.{IsHistory};
 ghost use Rattle.tl_search.specs.Ends.{Ends, EndsIfAny};
+ghost use Rattle.tl_search.specs.SameTask.{HasSameTask};
 ghost use Rattle.tl_depth.specs.Endings.{EndsUnkept};
 ghost use Rattle.tl_depth.specs.Outcomes.{IsDepthFirstFault, IsDepthFirstOutcome, IsToldOutcome};
 ghost use Rattle.tl_depth.specs.Reports.{AreFewSteps};
@@ -22,7 +23,7 @@ use tl_terms::Steps;
 
 /// Whether some search node was met with no remaining action, and never with any.
 fn is_cut(most: &[u32]) -> bool
-    ensures cut { result ≡ true → (k : ℕ) × (slice_get most.now k ≡ Some 0) }
+    ensures cut { IsTrue result → (k : ℕ) × (slice_get most.now k ≡ Some 0) }
     ensures uncut { result ≡ false → IsUncut most.now }
 {
     for left in most {
@@ -46,8 +47,7 @@ impl DepthFirst {
         requires nodes { 1 ≤ nodes }
         requires new { HasDoneNothing self.old }
         requires events { self.old.events ≡ [] }
-        ensures task { S.task space.new ≡ S.task space.old }
-        ensures problem { S.problem space.new ≡ S.problem space.old }
+        ensures same { HasSameTask S.task S.problem space.old space.new }
         ensures outcome { IfOk result (IsDepthFirstOutcome (S.problem space.old) self.old.within nodes
             (pairs_of (S.kept space.new))) }
         ensures calls { AreFewSteps (S.problem space.old) self.old.within (S.kept space.new) steps.old steps.new }
@@ -84,8 +84,7 @@ impl DepthFirst {
         requires nodes { 1 ≤ nodes }
         requires new { HasDoneNothing self.old }
         requires events { self.old.events ≡ [] }
-        ensures task { S.task space.new ≡ S.task space.old }
-        ensures problem { S.problem space.new ≡ S.problem space.old }
+        ensures same { HasSameTask S.task S.problem space.old space.new }
         ensures begun { IfOk result (BeginsSearch (S.problem space.old) nodes (pairs_of (S.kept space.new)) self.old self.new) }
         ensures history { OnOk result (IsHistory (S.problem space.old) self.old.watch (S.kept space.new) self.new.events) }
         ensures ends { IfOk result (EndsIfAny self.old.watch (S.kept space.new) self.new.events) }
@@ -125,8 +124,7 @@ impl DepthFirst {
         requires first { HasRootAlone (S.problem space.old) nodes (pairs_of (S.kept space.old)) self.old }
         requires named { SearchIsNamed (S.task space.old) self.old }
         requires remembered { Remembers (S.problem space.old) (S.task space.old) (S.kept space.old) self.old.expansions }
-        ensures task { S.task space.new ≡ S.task space.old }
-        ensures problem { S.problem space.new ≡ S.problem space.old }
+        ensures same { HasSameTask S.task S.problem space.old space.new }
         ensures kept { S.kept space.new ≡ S.kept space.old }
         ensures events { self.new.events ≡ self.old.events }
         ensures begun { OnOk result (BeginsSearch (S.problem space.old) nodes

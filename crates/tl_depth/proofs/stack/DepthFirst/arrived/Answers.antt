@@ -22,9 +22,9 @@ returns-in_ok-seen-in-Seen-clause-turned g c calls s = c.in_ok-seen-in-Seen.ensu
 
 pub returns-in_ok-fresh-in-Fresh-clause-turned : goal.returns-in_ok-fresh-in-Fresh-clause-turned
 returns-in_ok-fresh-in-Fresh-clause-turned g c calls s =
-    as-turned _ _ c.args.nodes _ _ c.args.self.now c.fresh.new.self (calls + 1) None c.outcome_at.ensures.problem
+    as-turned _ _ c.args.nodes _ _ c.args.self.now c.fresh.new.self (calls + 1) None c.outcome_at.ensures.same.problem
     (ap pairs_of c.outcome_at.ensures.kept)
-    (c.in_ok-fresh-in-Fresh.ensures.turned calls (as-arrival (sym c.outcome_at.ensures.problem)
+    (c.in_ok-fresh-in-Fresh.ensures.turned calls (as-arrival (sym c.outcome_at.ensures.same.problem)
     (sym (ap pairs_of c.outcome_at.ensures.kept)) c.in-Fresh.is s))
 
 pub returns-in-Some-clause-ends : goal.returns-in-Some-clause-ends
@@ -34,16 +34,16 @@ returns-in-Some-clause-ends g c h = ends-any _ _ _ c.in-Some.outcome (subst
 pub fresh-requires-clause-arrived : goal.fresh-requires-clause-arrived
 fresh-requires-clause-arrived g c = (
   c.requires.arrived.0,
-  as-arrival (sym c.outcome_at.ensures.problem)
+  as-arrival (sym c.outcome_at.ensures.same.problem)
       (sym (ap pairs_of c.outcome_at.ensures.kept)) c.in-Fresh.is c.requires.arrived.1,
 )
 
 pub fresh-requires-clause-named : goal.fresh-requires-clause-named
-fresh-requires-clause-named g c = subst (λ t. SearchIsNamed t c.args.self.now) (sym c.outcome_at.ensures.task) c.requires.named
+fresh-requires-clause-named g c = subst (λ t. SearchIsNamed t c.args.self.now) (sym c.outcome_at.ensures.same.task) c.requires.named
 
 pub returns-in-Some-clause-plan_named : goal.returns-in-Some-clause-plan_named
 returns-in-Some-clause-plan_named g c = rw c.in-Some.is at c.in_ok-ended-in-Fresh.ensures.plan_named
 
 pub returns-in_ok-fresh-in-Fresh-clause-named : goal.returns-in_ok-fresh-in-Fresh-clause-named
-returns-in_ok-fresh-in-Fresh-clause-named g c = subst (λ t. SearchIsNamed t c.fresh.new.self) c.outcome_at.ensures.task
+returns-in_ok-fresh-in-Fresh-clause-named g c = subst (λ t. SearchIsNamed t c.fresh.new.self) c.outcome_at.ensures.same.task
     c.in_ok-fresh-in-Fresh.ensures.named

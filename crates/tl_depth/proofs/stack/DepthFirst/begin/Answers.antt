@@ -23,6 +23,7 @@ use Rattle.tl_depth.proofs.Remembering.{nothing-remembered, as-remembered}
 use Rattle.tl_search.specs.Kept.{AreKept}
 use Rattle.tl_search.specs.PairGraph.{pair_graph}
 use Rattle.tl_depth.proofs.SeenPairs.{root-as-pairs, accepted-pair, acceptance-pair}
+use Rattle.tl_search.proofs.SameTaskLaws.{same-task-after}
 use Rattle.tl_depth.proofs.stack.DepthFirst.begin.Goals as goal
 
 pub root_fault-requires : goal.root_fault-requires
@@ -43,8 +44,7 @@ returns-in-Ok-Pruned-clause-begun g c =
 
 pub returns-in-Ok-true : goal.returns-in-Ok-true
 returns-in-Ok-true g c = record {
-  task = c.accepted.ensures.task ∙ c.root.ensures.task;
-  problem = c.accepted.ensures.problem ∙ c.root.ensures.problem;
+  same = same-task-after c.accepted.ensures.same c.root.ensures.same;
   begun = begun;
   history = subst (λ xs. IsHistory (g.S.SearchSpace.problem c.args.space.now) c.args.self.now.watch xs c.report_root-2.new.events)
       (sym c.accepted.ensures.kept) r.history;
@@ -56,7 +56,8 @@ returns-in-Ok-true g c = record {
         events-named (g.S.SearchSpace.task c.args.space.now) c.args.self.now.watch [] c.report_root-2.new.events event.RootKept tt tt
         (c.in_ok-report_root.ensures ∙ ap (λ es. events_after c.args.self.now.watch es event.RootKept) c.requires.events);
   };
-  remembered = nothing-remembered c.root.ensures.problem (subst (λ ks. AreKept (pair_graph (g.S.SearchSpace.problem c.root.new.self)) ks)
+  remembered = nothing-remembered c.root.ensures.same.problem (subst (λ ks.
+      AreKept (pair_graph (g.S.SearchSpace.problem c.root.new.self)) ks)
       (sym c.accepted.ensures.kept) c.root.ensures.kept) c.requires.new.expansions;
   plan_named = subst (AreNamedIn (g.S.SearchSpace.task c.args.space.now)) (sym c.new.ensures) tt;
   path_named = tt;
@@ -75,7 +76,7 @@ returns-in-Ok-true g c = record {
         (Reported c.args.self.now.watch (pairs_of (g.S.SearchSpace.kept c.accepted.new.self)) c.report_root-2.new.events) c.new.result ×
         TellsInDepth (g.S.SearchSpace.problem c.args.space.now) c.args.self.now.within c.args.self.now.watch
         (pairs_of (g.S.SearchSpace.kept c.accepted.new.self)) true c.report_root-2.new.events)
-    begun = let t = first-plan _ _ _ _ _ _ r.pair c.requires.nodes r.unpruned r.alone c.root.ensures.problem
+    begun = let t = first-plan _ _ _ _ _ _ r.pair c.requires.nodes r.unpruned r.alone c.root.ensures.same.problem
         (ap pairs_of c.accepted.ensures.kept) ((accepted-pair _ _ 0 _ c.in-Ok-true.ensures.accepted r.pair r.numbered).0
         c.in-Ok-true.field-0-test) c.new.result c.new.ensures (Reported c.args.self.now.watch
         (pairs_of (g.S.SearchSpace.kept c.accepted.new.self)) c.report_root-2.new.events) in (
@@ -105,12 +106,11 @@ returns-in-Err-accepted g c =
     (g.S.SearchSpace.kept c.root.new.self) c.in-Ok-Fresh.field-0-0 _ c.report_root-2.new.events c.requires.empty c.requires.events
     c.root.ensures.kept (rw c.in-Ok-Fresh.field-0-is at c.in-Ok-Fresh.ensures.arrival) c.in_ok-report_root.ensures in
     record {
-      task = c.accepted.ensures.task ∙ c.root.ensures.task;
-      problem = c.accepted.ensures.problem ∙ c.root.ensures.problem;
+      same = same-task-after c.accepted.ensures.same c.root.ensures.same;
       begun = tt;
       history = tt;
       ends = tt;
-      fault = root-judged-fault _ _ c.args.self.now.within r.pair r.unpruned c.root.ensures.problem c.in-Err-accepted.fault
+      fault = root-judged-fault _ _ c.args.self.now.within r.pair r.unpruned c.root.ensures.same.problem c.in-Err-accepted.fault
           c.root_fault-in-Err-accepted.result c.root_fault-in-Err-accepted.ensures.fault
           (acceptance-pair _ _ 0 _ c.in-Err-accepted.ensures.cause r.pair r.numbered);
       named = tt;
@@ -124,7 +124,7 @@ begun-requires-clause-first g c =
     let r = root-kept _ _ c.args.self.now.watch (g.S.SearchSpace.kept c.args.space.now)
     (g.S.SearchSpace.kept c.root.new.self) c.in-Ok-Fresh.field-0-0 _ c.report_root-2.new.events c.requires.empty c.requires.events
     c.root.ensures.kept (rw c.in-Ok-Fresh.field-0-is at c.in-Ok-Fresh.ensures.arrival) c.in_ok-report_root.ensures in
-    first-kept _ _ _ _ _ _ _ r.pair c.requires.nodes r.unpruned r.alone c.root.ensures.problem c.accepted.ensures.problem
+    first-kept _ _ _ _ _ _ _ r.pair c.requires.nodes r.unpruned r.alone c.root.ensures.same.problem c.accepted.ensures.same.problem
     (ap pairs_of c.accepted.ensures.kept)
     (λ a. let t = (accepted-pair _ _ 0 _ c.in-Ok-false.ensures.accepted r.pair r.numbered).1 a in
     absurd (let z : c.in-Ok-false.field-0 ≡ true = t in let y = c.in-Ok-false.field-0-test in cc))
@@ -149,17 +149,17 @@ returns g c =
     (g.S.SearchSpace.kept c.root.new.self) c.in-Ok-Fresh.field-0-0 _ c.report_root-2.new.events c.requires.empty c.requires.events
     c.root.ensures.kept (rw c.in-Ok-Fresh.field-0-is at c.in-Ok-Fresh.ensures.arrival) c.in_ok-report_root.ensures in
     record {
-      task = c.begun.ensures.task ∙ (c.accepted.ensures.task ∙ c.root.ensures.task);
-      problem = c.begun.ensures.problem ∙ (c.accepted.ensures.problem ∙ c.root.ensures.problem);
+      same = same-task-after c.begun.ensures.same (same-task-after c.accepted.ensures.same c.root.ensures.same);
       begun = subst (λ p. BeginsSearch p c.args.nodes (pairs_of (g.S.SearchSpace.kept c.begun.new.space)) c.args.self.now c.begun.new.self
-          None) (c.accepted.ensures.problem ∙ c.root.ensures.problem) c.in_ok-begun.ensures.begun;
+          None) (c.accepted.ensures.same.problem ∙ c.root.ensures.same.problem) c.in_ok-begun.ensures.begun;
       history = as-history _ _ _ _ _ _ _ _ refl refl (sym (c.begun.ensures.kept ∙ c.accepted.ensures.kept))
           (sym c.begun.ensures.events) r.history;
       ends = tt;
       fault = tt;
-      named = subst (λ t. SearchIsNamed t c.begun.new.self) (c.accepted.ensures.task ∙ c.root.ensures.task) c.in_ok-begun.ensures.named;
-      remembered = as-remembered (c.accepted.ensures.problem ∙ c.root.ensures.problem)
-          (c.accepted.ensures.task ∙ c.root.ensures.task) c.in_ok-begun.ensures.remembered;
+      named = subst (λ t. SearchIsNamed t c.begun.new.self) (c.accepted.ensures.same.task ∙ c.root.ensures.same.task)
+          c.in_ok-begun.ensures.named;
+      remembered = as-remembered (c.accepted.ensures.same.problem ∙ c.root.ensures.same.problem)
+          (c.accepted.ensures.same.task ∙ c.root.ensures.same.task) c.in_ok-begun.ensures.remembered;
       plan_named = tt;
       path_named = tt;
     }

@@ -74,7 +74,7 @@ returns-clause-history g c s =
     let h = c.in-Ok-child.ensures.arrival x.0 x.1 in
     history-more _ _ (g.S.SearchSpace.kept c.args.space.now) (g.S.SearchSpace.kept c.child.new.self) c.index-as_slice-top.result.at x.0
     c.in-Ok.action c.in-Ok-child.arrival _ c.report.new.self.events s x.1 h
-    (subst (λ p. AreKept (pair_graph p) (g.S.SearchSpace.kept c.child.new.self)) c.child.ensures.problem c.child.ensures.kept)
+    (subst (λ p. AreKept (pair_graph p) (g.S.SearchSpace.kept c.child.new.self)) c.child.ensures.same.problem c.child.ensures.kept)
     (c.in_ok-report.ensures.told r.level.front c.index-as_slice-top.result c.in-Ok.action r.level.is r.at_action)
 
 pub returns-clause-ends : goal.returns-clause-ends

@@ -4,14 +4,14 @@ use Rattle.tl_search.specs.History.{IsHistory}
 use Rattle.tl_depth.specs.Expansions.{Remembers}
 use Rattle.tl_depth.specs.NamedStacks.{SearchIsNamed}
 use Rattle.tl_depth.specs.Ongoing.{IsOngoing, to_do}
+use Rattle.tl_search.specs.SameTask.{HasSameTask}
 use Rattle.tl_depth.proofs.stack.DepthFirst.run.Given as goal
 
 abbrev pub invariant-turns : goal.invariant-turns
 invariant-turns g l = record {
-  task : g.S.SearchSpace.task l.space ≡ g.S.SearchSpace.task l.fn.space;
+  same : HasSameTask g.S.SearchSpace.task g.S.SearchSpace.problem l.fn.space l.space;
   named : SearchIsNamed (g.S.SearchSpace.task l.space) l.self;
   remembered : Remembers (g.S.SearchSpace.problem l.space) (g.S.SearchSpace.task l.space) (g.S.SearchSpace.kept l.space) l.self.expansions;
-  problem : g.S.SearchSpace.problem l.space ≡ g.S.SearchSpace.problem l.fn.space;
   within : l.self.within ≡ l.fn.self.within;
   watch : l.self.watch ≡ l.fn.self.watch;
   history : IsHistory (g.S.SearchSpace.problem l.space) l.self.watch (g.S.SearchSpace.kept l.space) l.self.events;

@@ -60,9 +60,10 @@ attempt-requires-clause-top g c =
 
 pub returns-clause-turned : goal.returns-clause-turned
 returns-clause-turned g c = if-ok c.arrived.result _ _ c.arrived.ensures.turned
-    (λ o h calls s. turned-to _ _ _ _ _ c.args.self.now c.attempt.new.self _ calls _ _ o c.attempt.ensures.rest c.attempt.ensures.problem
+    (λ o h calls s. turned-to _ _ _ _ _ c.args.self.now c.attempt.new.self _ calls _ _ o c.attempt.ensures.rest
+    c.attempt.ensures.same.problem
     (sym (ap pairs_of c.arrived.ensures.kept)) c.attempt.ensures.ticks
-    (h calls (as-arrival (sym c.attempt.ensures.problem) refl refl (c.in_ok-arrival.ensures.arrived calls s))))
+    (h calls (as-arrival (sym c.attempt.ensures.same.problem) refl refl (c.in_ok-arrival.ensures.arrived calls s))))
 
 pub returns-then-len-level-clause-history : goal.returns-then-len-level-clause-history
 returns-then-len-level-clause-history g c s = as-history _ _ _ _ _ _ _ _ refl refl refl
@@ -106,17 +107,18 @@ returns-then-len-level-clause-named g c =
 
 pub arrived-requires-clause-named : goal.arrived-requires-clause-named
 arrived-requires-clause-named g c = subst (λ t. SearchIsNamed t c.attempt.new.self)
-    (sym c.attempt.ensures.task) c.in_ok-arrival.ensures.named
+    (sym c.attempt.ensures.same.task) c.in_ok-arrival.ensures.named
 
 pub returns-clause-named : goal.returns-clause-named
-returns-clause-named g c = subst (λ t. OnOk c.arrived.result (SearchIsNamed t c.arrived.new.self)) c.attempt.ensures.task
+returns-clause-named g c = subst (λ t. OnOk c.arrived.result (SearchIsNamed t c.arrived.new.self)) c.attempt.ensures.same.task
     c.arrived.ensures.named
 
 pub returns-clause-plan_named : goal.returns-clause-plan_named
-returns-clause-plan_named g c = subst (λ t. IfOk c.arrived.result (EndIsNamed t)) c.attempt.ensures.task c.arrived.ensures.plan_named
+returns-clause-plan_named g c = subst (λ t. IfOk c.arrived.result (EndIsNamed t)) c.attempt.ensures.same.task c.arrived.ensures.plan_named
 
 pub returns-clause-path_named : goal.returns-clause-path_named
-returns-clause-path_named g c = subst (λ t. IfErr c.arrived.result (FaultIsNamed t)) c.attempt.ensures.task c.arrived.ensures.path_named
+returns-clause-path_named g c = subst (λ t. IfErr c.arrived.result (FaultIsNamed t)) c.attempt.ensures.same.task
+    c.arrived.ensures.path_named
 
 pub returns-then-len-level-clause-remembered : goal.returns-then-len-level-clause-remembered
 returns-then-len-level-clause-remembered g c =
