@@ -1,5 +1,4 @@
 pub mod PlaceLists
-pub mod Shifts
 pub mod EvenRows
 pub mod Parts
 pub mod Joined

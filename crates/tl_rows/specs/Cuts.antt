@@ -1,5 +1,5 @@
 -- A list cut into rows of one length, and edits of the list.
-use Rattle.std.specs.Prelude.{◌≡◌, ◌+◌, ◌-◌, ℕ, zero, suc, List, [], ◌∷◌, ◌++◌, length, take, drop}
+use Rattle.std.specs.Prelude.{◌≡◌, ◌+◌, ℕ, zero, suc, List, [], ◌∷◌, ◌++◌, length, take, drop}
 use Rattle.tl_syntax.specs.Lists.{Each}
 
 -- the items cut into n rows of one length
@@ -14,15 +14,6 @@ HaveWidth w rows = Each (λ r. length r ≡ w) rows
 -- the rows of both lists have one length
 abbrev pub HaveOneWidth : {X : Type 0} → List (List X) → List (List X) → Type 0
 HaveOneWidth rows others = (w : ℕ) × HaveWidth w rows × HaveWidth w others
-
--- the items with others in place of as many from a place on
-abbrev pub items_over : {X : Type 0} → List X → ℕ → List X → List X
-items_over xs at ys = take at xs ++ (ys ++ drop (at + length ys) xs)
-
--- the items with others before those from `at` on, and without as many from `cut` on, which is not
--- before it
-abbrev pub items_back : {X : Type 0} → List X → ℕ → ℕ → List X → List X
-items_back xs at cut ys = take at xs ++ (ys ++ (take (cut - at) (drop at xs) ++ drop (cut + length ys) xs))
 
 -- the items with others before those from a place on
 abbrev pub items_with : {X : Type 0} → List X → ℕ → List X → List X

@@ -1,8 +1,8 @@
 // Rows of one length, one after another in one list.
 ghost use Rattle.std.specs.List.{insert, remove};
-ghost use Rattle.std.specs.Prelude.{◌≡◌, ◌<◌, ◌≤◌, ◌+◌, ◌-◌, ◌*◌, ◌^◌, ℕ, List, [], ◌∷◌, ◌++◌, length, take, drop, slice_index_or, IfOk, OnErr, OnOk, IsTrue};
+ghost use Rattle.std.specs.Prelude.{◌≡◌, ◌<◌, ◌≤◌, ◌+◌, ◌-◌, ◌*◌, ◌^◌, ℕ, List, [], ◌∷◌, ◌++◌, length, take, drop, slice_index_or, IfOk, OnOk, IsTrue};
 ghost use Rattle.tl_syntax.proofs.Telling.{tells-partial};
-ghost use Rattle.tl_rows.specs.Cuts.{even_rows, items_back, items_over, items_with, items_without, HaveOneWidth, HaveWidth};
+ghost use Rattle.tl_rows.specs.Cuts.{even_rows, items_with, items_without, HaveOneWidth, HaveWidth};
 ghost use Rattle.tl_rows.specs.Runs.{between};
 ghost use Rattle.tl_rows.specs.RowTests.{rows_eq, rows-tell};
 
@@ -79,42 +79,6 @@ fn whole_rows(values: usize, width: usize) -> usize
     if width == 1 { values } else { values / width }
 }
 
-/// Writes the row's values over others from a place on.
-#[inline]
-fn write_values(values: &mut Vec<Value>, at: usize, row: &[Value])
-    requires { at + length row.now ≤ length values.old.items }
-    ensures { values.new.items ≡ items_over values.old.items at row.now }
-{
-    let mut j = 0;
-    while j < row.len() {
-        values[at + j] = row[j];
-        j += 1;
-    }
-}
-
-/// Puts the row's values before those from `at` on, and takes as many out from the place `cut` on,
-/// which is not before it.
-#[inline]
-fn shift_back(values: &mut Vec<Value>, at: usize, cut: usize, row: &[Value])
-    requires order { at ≤ cut }
-    requires bound { cut + length row.now ≤ length values.old.items }
-    ensures { values.new.items ≡ items_back values.old.items at cut row.now }
-{
-    values.copy_within(at..cut, at + row.len());
-    write_values(values, at, row);
-}
-
-/// Takes so many values out from a place on.
-#[inline]
-fn cut_values(values: &mut Vec<Value>, at: usize, size: usize)
-    requires { at + size ≤ length values.old.items }
-    ensures { values.new.items ≡ items_without values.old.items at size }
-{
-    let count = values.len();
-    values.copy_within(at + size..count, at);
-    values.truncate(count - size);
-}
-
 /// The values with those of the row before those from `at` on.
 pub(crate) fn values_with(
     alloc: Global,
@@ -132,7 +96,7 @@ pub(crate) fn values_with(
     Ok(out)
 }
 
-/// The values without so many from `at` on, with room for as many.
+/// The values without so many from `at` on.
 fn values_without(
     alloc: Global,
     values: &[Value],
@@ -142,7 +106,7 @@ fn values_without(
     requires { at + size ≤ length values.now }
     ensures { IfOk result (λ v. v.items ≡ items_without values.now at size) }
 {
-    let mut out = Vec::with_capacity(alloc, values.len())?;
+    let mut out = Vec::with_capacity(alloc, values.len() - size)?;
     out.extend_from_slice(&values[..at])?;
     out.extend_from_slice(&values[at + size..])?;
     Ok(out)
@@ -346,33 +310,5 @@ impl Flat {
             count: self.count - 1,
             values: values_without(alloc, self.values.as_slice(), width * k, width)?,
         })
-    }
-
-    /// Puts one more row at place `k`. After a failure the rows are those of before.
-    pub(crate) fn put_row(&mut self, k: usize, row: &[Value]) -> Result<(), NoMemory>
-        requires place { k ≤ length self.old }
-        requires fits { HaveWidth (length row.now) self.old }
-        ensures all { OnOk result (self.new ≡ insert self.old k row.now) }
-        ensures same { OnErr result (self.new ≡ self.old) }
-    {
-        if self.count + 1 >= COUNTED {
-            return Err(NoMemory);
-        }
-        let end = self.values.len();
-        self.values.extend_from_slice(row)?;
-        shift_back(&mut self.values, row.len() * k, end, row);
-        self.width = row.len();
-        self.count += 1;
-        Ok(())
-    }
-
-    /// Takes row `k` out.
-    pub(crate) fn cut_row(&mut self, k: usize)
-        requires { k < length self.old }
-        ensures { self.new ≡ remove self.old k }
-    {
-        let width = self.width;
-        cut_values(&mut self.values, width * k, width);
-        self.count -= 1;
     }
 }

@@ -322,7 +322,7 @@ impl Runs {
         Ok(())
     }
 
-    /// Puts one more row at place `k`, in place where its run or the last rows have room. After a
+    /// Puts one more row at place `k`, into its run or the last rows where these have room. After a
     /// failure the rows are those of before.
     pub(crate) fn put_row(&mut self, alloc: Global, k: usize, row: &[Value]) -> Result<(), NoMemory>
         requires { k ≤ length self.old }
@@ -331,7 +331,8 @@ impl Runs {
     {
         let full = self.shared.len();
         if k >= full && self.last.len() < MOST && self.last.takes(row.len()) {
-            return self.last.put_row(k - full, row);
+            self.last = self.last.with(alloc, k - full, row)?;
+            return Ok(());
         }
         if k < full && self.shared.put_row(alloc, k, row)? {
             return Ok(());
@@ -340,7 +341,7 @@ impl Runs {
         Ok(())
     }
 
-    /// Takes row `k` out, in place where it is among the last rows or its run has rows enough.
+    /// Takes row `k` out, of the last rows where it is among them or of its run where that has enough.
     /// After a failure the rows are those of before.
     pub(crate) fn cut_row(&mut self, alloc: Global, k: usize) -> Result<(), NoMemory>
         requires { k < length self.old }
@@ -349,7 +350,7 @@ impl Runs {
     {
         let full = self.shared.len();
         if k >= full {
-            self.last.cut_row(k - full);
+            self.last = self.last.without(alloc, k - full)?;
             return Ok(());
         }
         if self.shared.cut_row(alloc, k)? {

@@ -122,29 +122,19 @@ fn is_whole(run: &Run, to: usize) -> bool
     run.end <= to && run.rows.len() >= FEWEST
 }
 
-/// Takes row `k` out of the run, in place where no other table shares it. After a failure its rows
-/// are those of before.
+/// Takes row `k` out of the run. After a failure its rows are those of before.
 fn cut_in_run(alloc: Global, run: &mut Run, k: usize) -> Result<(), NoMemory>
     requires { k < length run.old.rows.value }
     ensures end { run.new.end ≡ run.old.end }
     ensures all { OnOk result (run.new.rows.value ≡ remove run.old.rows.value k) }
     ensures same { OnErr result (run.new.rows.value ≡ run.old.rows.value) }
 {
-    match Rc::get_mut(&mut run.rows) {
-        Some(rows) => {
-            rows.cut_row(k);
-            Ok(())
-        }
-        None => {
-            let rows = run.rows.without(alloc, k)?;
-            run.rows = Rc::new(alloc, rows)?;
-            Ok(())
-        }
-    }
+    let rows = run.rows.without(alloc, k)?;
+    run.rows = Rc::new(alloc, rows)?;
+    Ok(())
 }
 
-/// Puts one more row at place `k` into the run, in place where no other table shares it. After a
-/// failure its rows are those of before.
+/// Puts one more row at place `k` into the run. After a failure its rows are those of before.
 fn put_in_run(alloc: Global, run: &mut Run, k: usize, row: &[Value]) -> Result<(), NoMemory>
     requires place { k ≤ length run.old.rows.value }
     requires fits { HaveWidth (length row.now) run.old.rows.value }
@@ -152,14 +142,9 @@ fn put_in_run(alloc: Global, run: &mut Run, k: usize, row: &[Value]) -> Result<(
     ensures all { OnOk result (run.new.rows.value ≡ insert run.old.rows.value k row.now) }
     ensures same { OnErr result (run.new.rows.value ≡ run.old.rows.value) }
 {
-    match Rc::get_mut(&mut run.rows) {
-        Some(rows) => rows.put_row(k, row),
-        None => {
-            let rows = run.rows.with(alloc, k, row)?;
-            run.rows = Rc::new(alloc, rows)?;
-            Ok(())
-        }
-    }
+    let rows = run.rows.with(alloc, k, row)?;
+    run.rows = Rc::new(alloc, rows)?;
+    Ok(())
 }
 
 /// One less at each of the ends from run `i` on.

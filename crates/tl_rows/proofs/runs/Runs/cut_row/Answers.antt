@@ -10,4 +10,4 @@ returns-then-k-full-clause-all c =
     let k = c.args.k in
     let n = k - c.len-full.result in
     let at : k ≡ length s + n = omega (arith, c.len-full.ensures.len, c.if-k-full.true) in
-    ap (λ xs. s ++ xs) c.cut_row.ensures ∙ (remove-back s t n k at ∙ ap (λ xs. remove xs k) c.self.view_is)
+    ap (λ xs. s ++ xs) c.in_ok-self-inside.ensures ∙ (remove-back s t n k at ∙ ap (λ xs. remove xs k) c.self.view_is)

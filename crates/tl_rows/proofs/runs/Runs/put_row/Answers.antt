@@ -1,6 +1,5 @@
 use Rattle.std.proofs.Common.{◌≡◌, ◌+◌, ◌-◌, ◌++◌, length, ap, ◌∙◌, arith}
 use Rattle.std.specs.List.{insert}
-use Rattle.tl_rows.proofs.Going.{on-ok}
 use Rattle.tl_rows.proofs.Parts.{insert-back}
 use Rattle.tl_rows.proofs.runs.Runs.put_row.Goals as goal
 
@@ -12,5 +11,4 @@ returns-then-takes-clause-all c =
     let k = c.args.k in
     let n = k - c.len-full.result in
     let at : k ≡ length s + n = omega (arith, c.len-full.ensures.len, c.if-k-full.true) in
-    on-ok c.put_row.result (λ e. ap (λ xs. s ++ xs) e ∙ (insert-back s t n k row at ∙ ap (λ xs. insert xs k row) c.self.view_is))
-    c.put_row.ensures.all
+    ap (λ xs. s ++ xs) c.in_ok-self-inside.ensures ∙ (insert-back s t n k row at ∙ ap (λ xs. insert xs k row) c.self.view_is)
