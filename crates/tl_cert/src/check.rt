@@ -1,6 +1,7 @@
 // The check of a proof, as its callers see it.
 ghost use Rattle.std.specs.Prelude.{◌≡◌, ◌<◌, ◌^◌, [], length, IfOk, IfErr};
 ghost use Rattle.tl_search.specs.NamedAnswers.{FaultIsNamed};
+ghost use Rattle.tl_search.specs.SameTask.{HasSameTask};
 ghost use Rattle.tl_cert.specs.Causes.{IsNoneFault};
 ghost use Rattle.tl_cert.specs.Checking.{VerdictIsNamed};
 ghost use Rattle.tl_cert.specs.Verdicts.{IsNoneVerdict};
@@ -24,8 +25,7 @@ pub fn check_none<S: SearchSpace, L: Ledger>(
 ) -> Result<NoneVerdict, SearchFault>
     requires empty { S.kept space.old ≡ [] }
     requires few { length proof.now.links < 2 ^ 32 }
-    ensures task { S.task space.new ≡ S.task space.old }
-    ensures problem { S.problem space.new ≡ S.problem space.old }
+    ensures same { HasSameTask S.task S.problem space.old space.new }
     ensures verdict { IfOk result (IsNoneVerdict (S.problem space.old) proof.now) }
     ensures fault { IfErr result (IsNoneFault (S.problem space.old) proof.now) }
     ensures named { IfOk result (VerdictIsNamed (S.task space.old)) }

@@ -1,6 +1,7 @@
 // The nodes that a proof lists, while it is checked.
 ghost use Rattle.std.specs.Prelude.{◌≡◌, [], ◌∷◌, IfOk, IfErr, OnOk};
 ghost use Rattle.tl_search.specs.NamedAnswers.{FaultIsNamed};
+ghost use Rattle.tl_search.specs.SameTask.{HasSameTask};
 ghost use Rattle.tl_cert.specs.Checking.{depths_of, AreShort, IsRootCause};
 ghost use Rattle.tl_cert.specs.Links.{ListsRoot};
 
@@ -35,8 +36,7 @@ fn root_depth(alloc: Global) -> Result<Numbers32, AllocError>
 /// Lists the node of the empty path, unless its residual is FALSE, and gives its depth.
 fn list_root<S: SearchSpace>(alloc: Global, space: &mut S) -> Result<Numbers32, SearchFault>
     requires { S.kept space.old ≡ [] }
-    ensures task { S.task space.new ≡ S.task space.old }
-    ensures problem { S.problem space.new ≡ S.problem space.old }
+    ensures same { HasSameTask S.task S.problem space.old space.new }
     ensures root { OnOk result (ListsRoot (S.problem space.old) (S.kept space.new)) }
     ensures depths { IfOk result (λ depths. depths ≡ depths_of (S.kept space.new)) }
     ensures short { OnOk result (AreShort (S.kept space.new)) }
@@ -61,8 +61,7 @@ impl Checking {
         bound: Option<u32>,
     ) -> Result<Checking, SearchFault>
         requires empty { S.kept space.old ≡ [] }
-        ensures task { S.task space.new ≡ S.task space.old }
-        ensures problem { S.problem space.new ≡ S.problem space.old }
+        ensures same { HasSameTask S.task S.problem space.old space.new }
         ensures root { OnOk result (ListsRoot (S.problem space.old) (S.kept space.new)) }
         ensures ready { IfOk result
             (IsRightSoFar (S.task space.old) (S.problem space.old) (S.kept space.new)) }

@@ -1,7 +1,8 @@
 // The listed nodes are judged, one after another.
-ghost use Rattle.std.specs.Prelude.{◌≡◌, ◌<◌, ◌≤◌, ◌^◌, true, None, length, slice_index, IfOk, IfErr, IfSome};
+ghost use Rattle.std.specs.Prelude.{◌≡◌, ◌<◌, ◌≤◌, ◌^◌, IsTrue, None, length, slice_index, IfOk, IfErr, IfSome};
 ghost use Rattle.tl_search.specs.Calls.{IsExecutableAt, TellsAcceptance};
 ghost use Rattle.tl_search.specs.NamedAnswers.{FaultIsNamed, IsNamedIn};
+ghost use Rattle.tl_search.specs.SameTask.{HasSameTask};
 ghost use Rattle.tl_cert.specs.Checking.{depths_of, is_no_farther, IsIdlingFault, IsJudgingFault, IsNodesFault, IsTurnFault, IsVisitFault, JudgesNode, JudgesNodes, TellsClosed, TellsInside, VerdictIsNamed};
 
 use crate::checking::Checking;
@@ -41,10 +42,9 @@ impl Checking {
         requires depths { self.now.depths ≡ depths_of (S.kept space.old) }
         requires executable { IsExecutableAt (S.problem space.old) (S.kept space.old) at a.now }
         requires named { IsNamedIn (S.task space.old) a.now }
-        ensures task { S.task space.new ≡ S.task space.old }
-        ensures problem { S.problem space.new ≡ S.problem space.old }
+        ensures same { HasSameTask S.task S.problem space.old space.new }
         ensures kept { IfOk result
-            (λ inside. inside ≡ true → S.kept space.new ≡ S.kept space.old) }
+            (λ inside. IsTrue inside → S.kept space.new ≡ S.kept space.old) }
         ensures inside { IfOk result
             (TellsInside (S.problem space.old) self.now.bound (S.kept space.old) at a.now) }
         ensures fault { IfErr result
@@ -68,8 +68,7 @@ impl Checking {
     ) -> Result<Option<Action>, SearchFault>
         requires at { at < length (S.kept space.old) }
         requires depths { self.now.depths ≡ depths_of (S.kept space.old) }
-        ensures task { S.task space.new ≡ S.task space.old }
-        ensures problem { S.problem space.new ≡ S.problem space.old }
+        ensures same { HasSameTask S.task S.problem space.old space.new }
         ensures kept { IfOk result
             (λ out. out ≡ None → S.kept space.new ≡ S.kept space.old) }
         ensures closed { IfOk result
@@ -90,8 +89,7 @@ impl Checking {
     /// Whether a node is accepted.
     fn accepted<S: SearchSpace>(&self, space: &mut S, at: usize) -> Result<bool, SearchFault>
         requires at { at < length (S.kept space.old) }
-        ensures task { S.task space.new ≡ S.task space.old }
-        ensures problem { S.problem space.new ≡ S.problem space.old }
+        ensures same { HasSameTask S.task S.problem space.old space.new }
         ensures kept { S.kept space.new ≡ S.kept space.old }
         ensures accepted { IfOk result
             (TellsAcceptance (S.problem space.old) (S.kept space.old) at) }
@@ -114,8 +112,7 @@ impl Checking {
         requires at { at < length (S.kept space.old) }
         requires depths { self.now.depths ≡ depths_of (S.kept space.old) }
         requires few { length (S.kept space.old) ≤ 2 ^ 32 }
-        ensures task { S.task space.new ≡ S.task space.old }
-        ensures problem { S.problem space.new ≡ S.problem space.old }
+        ensures same { HasSameTask S.task S.problem space.old space.new }
         ensures kept { IfOk result
             (λ wrong. wrong ≡ None → S.kept space.new ≡ S.kept space.old) }
         ensures judged { IfOk result
@@ -145,8 +142,7 @@ impl Checking {
     ) -> Result<NoneVerdict, SearchFault>
         requires depths { self.now.depths ≡ depths_of (S.kept space.old) }
         requires few { length (S.kept space.old) ≤ 2 ^ 32 }
-        ensures task { S.task space.new ≡ S.task space.old }
-        ensures problem { S.problem space.new ≡ S.problem space.old }
+        ensures same { HasSameTask S.task S.problem space.old space.new }
         ensures judged { IfOk result
             (JudgesNodes (S.problem space.old) self.now.bound (S.kept space.old)) }
         ensures named { IfOk result (VerdictIsNamed (S.task space.old)) }

@@ -3,6 +3,7 @@ ghost use Rattle.std.specs.Prelude.{◌≡◌, ◌<◌, ◌↔◌, length, IfOk,
 ghost use Rattle.tl_syntax.specs.Lists.{Among};
 ghost use Rattle.tl_search.specs.NamedAnswers.{FaultIsNamed, IsNamedIn};
 ghost use Rattle.tl_search.specs.Calls.{IsExecutableAt};
+ghost use Rattle.tl_search.specs.SameTask.{HasSameTask};
 ghost use Rattle.tl_cert.specs.Checking.{AreActionsAt, AreKnownActions, IsListingFault};
 
 use std::alloc::Global;
@@ -38,8 +39,7 @@ pub(crate) fn listed<S: SearchSpace>(
     at: usize,
 ) -> Result<NodeActions, SearchFault>
     requires at { at < length (S.kept space.old) }
-    ensures task { S.task space.new ≡ S.task space.old }
-    ensures problem { S.problem space.new ≡ S.problem space.old }
+    ensures same { HasSameTask S.task S.problem space.old space.new }
     ensures kept { S.kept space.new ≡ S.kept space.old }
     ensures known { IfOk result
         (AreActionsAt (S.task space.old) (S.problem space.old) (S.kept space.old)) }
@@ -63,8 +63,7 @@ pub(crate) fn known_at<S: SearchSpace>(
     requires at { at < length (S.kept space.old) }
     requires last { AreKnownActions (S.task space.old) (S.problem space.old)
         (S.kept space.old) last }
-    ensures task { S.task space.new ≡ S.task space.old }
-    ensures problem { S.problem space.new ≡ S.problem space.old }
+    ensures same { HasSameTask S.task S.problem space.old space.new }
     ensures kept { S.kept space.new ≡ S.kept space.old }
     ensures known { IfOk result
         (AreActionsAt (S.task space.old) (S.problem space.old) (S.kept space.old)) }
@@ -96,8 +95,7 @@ pub(crate) fn has_step<S: SearchSpace>(
     requires at { at < length (S.kept space.old) }
     requires known { AreKnownActions (S.task space.old) (S.problem space.old)
         (S.kept space.old) known.old }
-    ensures task { S.task space.new ≡ S.task space.old }
-    ensures problem { S.problem space.new ≡ S.problem space.old }
+    ensures same { HasSameTask S.task S.problem space.old space.new }
     ensures kept { S.kept space.new ≡ S.kept space.old }
     ensures known { OnOk result
         (AreKnownActions (S.task space.old) (S.problem space.old) (S.kept space.old) known.new) }

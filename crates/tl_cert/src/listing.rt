@@ -1,6 +1,7 @@
 // The links of a proof are listed, one after another.
-ghost use Rattle.std.specs.Prelude.{◌≡◌, ◌<◌, ◌^◌, true, length, slice_get, IfOk, IfErr, OnErr};
+ghost use Rattle.std.specs.Prelude.{◌≡◌, ◌<◌, ◌^◌, IsTrue, length, slice_get, IfOk, IfErr, OnErr};
 ghost use Rattle.tl_search.specs.NamedAnswers.{FaultIsNamed};
+ghost use Rattle.tl_search.specs.SameTask.{HasSameTask};
 ghost use Rattle.tl_cert.specs.Causes.{IsNoneFaultOf};
 ghost use Rattle.tl_cert.specs.Checking.{goes_on, IsRightSoFar, IsVisitFault, ListsLink, ListsLinks};
 ghost use Rattle.tl_cert.specs.Links.{ListsRoot};
@@ -40,12 +41,11 @@ impl Checking {
         requires ready { IsRightSoFar (S.task space.old) (S.problem space.old) (S.kept space.old)
             self.old }
         requires few { length (S.kept space.old) < 2 ^ 32 }
-        ensures task { S.task space.new ≡ S.task space.old }
-        ensures problem { S.problem space.new ≡ S.problem space.old }
+        ensures same { HasSameTask S.task S.problem space.old space.new }
         ensures bound { self.new.bound ≡ self.old.bound }
         ensures listed { IfOk result (ListsLink (S.problem space.old) self.old.bound
             (S.kept space.old) (S.kept space.new) link.now) }
-        ensures ready { IfOk result (λ good. good ≡ true →
+        ensures ready { IfOk result (λ good. IsTrue good →
             IsRightSoFar (S.task space.old) (S.problem space.old) (S.kept space.new) self.new) }
         ensures fault { IfErr result
             (IsVisitFault (S.problem space.old) (S.kept space.old) link.now.from link.now.action) }
@@ -85,8 +85,7 @@ impl Checking {
         requires ready { IsRightSoFar (S.task space.old) (S.problem space.old) (S.kept space.old)
             self.old }
         requires few { length links.now < 2 ^ 32 }
-        ensures task { S.task space.new ≡ S.task space.old }
-        ensures problem { S.problem space.new ≡ S.problem space.old }
+        ensures same { HasSameTask S.task S.problem space.old space.new }
         ensures bound { self.new.bound ≡ self.old.bound }
         ensures listed { IfOk result
             (ListsLinks (S.problem space.old) self.old.bound links.now (S.kept space.new)) }

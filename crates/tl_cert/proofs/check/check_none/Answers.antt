@@ -13,7 +13,7 @@ returns-in_err-checking-clause-fault g c =
 
 pub list_all-requires-clause-root : goal.list_all-requires-clause-root
 list_all-requires-clause-root g c = subst (λ p. ListsRoot p (g.S.SearchSpace.kept c.begin.new.space))
-    (sym c.begin.ensures.problem) c.in_ok-checking.ensures.root
+    (sym c.begin.ensures.same.problem) c.in_ok-checking.ensures.root
 
 pub verdict-requires-clause-few : goal.verdict-requires-clause-few
 verdict-requires-clause-few g c =
@@ -26,10 +26,10 @@ returns-clause-verdict g c =
     let p = g.S.SearchSpace.problem c.args.space.now in
     let proof = c.args.proof.now in
     let kept = g.S.SearchSpace.kept c.list_all.new.space in
-    let lists : Lists p proof.bound proof.links kept = lists-over p _ proof.bound _ proof.links _ kept c.begin.ensures.problem
+    let lists : Lists p proof.bound proof.links kept = lists-over p _ proof.bound _ proof.links _ kept c.begin.ensures.same.problem
     c.in_ok-checking.ensures.bound c.as_slice.ensures (rw c.in-None.is at c.in_ok-number.ensures.listed) in
     IfOk-weaker c.verdict.result _ _ (λ v h. verdict-of p proof kept v lists
-    (judged-over p _ proof.bound _ kept v (c.list_all.ensures.problem ∙ c.begin.ensures.problem)
+    (judged-over p _ proof.bound _ kept v (c.list_all.ensures.same.problem ∙ c.begin.ensures.same.problem)
     (c.list_all.ensures.bound ∙ c.in_ok-checking.ensures.bound) h)) c.verdict.ensures.judged
 
 pub returns-clause-fault : goal.returns-clause-fault
@@ -37,8 +37,9 @@ returns-clause-fault g c =
     let p = g.S.SearchSpace.problem c.args.space.now in
     let proof = c.args.proof.now in
     let kept = g.S.SearchSpace.kept c.list_all.new.space in
-    let lists : Lists p proof.bound proof.links kept = lists-over p _ proof.bound _ proof.links _ kept c.begin.ensures.problem
+    let lists : Lists p proof.bound proof.links kept = lists-over p _ proof.bound _ proof.links _ kept c.begin.ensures.same.problem
     c.in_ok-checking.ensures.bound c.as_slice.ensures (rw c.in-None.is at c.in_ok-number.ensures.listed) in
     MatchResult-weaker c.verdict.result c.verdict.ensures.fault (λ x t. t)
-    (λ f h. fault-of p proof kept f lists (faults-over p _ proof.bound _ kept f (c.list_all.ensures.problem ∙ c.begin.ensures.problem)
+    (λ f h. fault-of p proof kept f lists (faults-over p _ proof.bound _ kept f
+    (c.list_all.ensures.same.problem ∙ c.begin.ensures.same.problem)
     (c.list_all.ensures.bound ∙ c.in_ok-checking.ensures.bound) h))

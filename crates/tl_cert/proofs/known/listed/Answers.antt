@@ -17,5 +17,5 @@ returns-in-Err-clause-fault g c = λ x e.
     (c.in-Err.ensures.cause x e)
 
 pub returns-in-Err-clause-named : goal.returns-in-Err-clause-named
-returns-in-Err-clause-named g c = subst (λ t. FaultIsNamed t c.search_node_fault.result) c.actions.ensures.task
+returns-in-Err-clause-named g c = subst (λ t. FaultIsNamed t c.search_node_fault.result) c.actions.ensures.same.task
     c.search_node_fault.ensures.named

@@ -15,7 +15,7 @@ returns-in_err-a-clause-fault g c =
     rw (q.1, q.2) (λ x e. inr (
       asked-at c.args.self.now.bound c.as_slice.result.now old c.args.at x (c.as_slice.ensures ∙ c.requires.depths) e
           (sym c.goes_on.ensures ∙ c.if-not-goes_on.false),
-      (subst (λ r. IsTurnFault r old c.args.at f) c.accepted.ensures.problem
+      (subst (λ r. IsTurnFault r old c.args.at f) c.accepted.ensures.same.problem
           (subst (λ zs. IsTurnFault (g.S.SearchSpace.problem c.accepted.new.space) zs c.args.at f) c.accepted.ensures.kept
           c.in_err-a.ensures.fault)) x e,
     ))
@@ -28,18 +28,19 @@ returns-in-Some-clause-judged g c = (
     asked = asked-at c.args.self.now.bound c.as_slice.result.now (g.S.SearchSpace.kept c.args.space.now) c.args.at x
         (c.as_slice.ensures ∙ c.requires.depths) e (sym c.goes_on.ensures ∙ c.if-not-goes_on.false);
     first_out = closed-over (g.S.SearchSpace.problem c.args.space.now) _ c.args.self.now.bound
-        (g.S.SearchSpace.kept c.args.space.now) _ c.args.at (Some c.in-Some.a) c.accepted.ensures.problem c.accepted.ensures.kept
+        (g.S.SearchSpace.kept c.args.space.now) _ c.args.at (Some c.in-Some.a) c.accepted.ensures.same.problem c.accepted.ensures.kept
         (rw c.in-Some.is at c.in_ok-a.ensures.closed) x e;
   },
 )
 
 pub returns-in-Some-clause-named : goal.returns-in-Some-clause-named
-returns-in-Some-clause-named g c = subst (λ t. IsNamedIn t c.in-Some.a) c.accepted.ensures.task (rw c.in-Some.is at c.in_ok-a.ensures.named)
+returns-in-Some-clause-named g c = subst (λ t. IsNamedIn t c.in-Some.a) c.accepted.ensures.same.task
+    (rw c.in-Some.is at c.in_ok-a.ensures.named)
 
 pub returns-in-None-clause-judged : goal.returns-in-None-clause-judged
 returns-in-None-clause-judged g c x e = record {
   unaccepted = λ h. true≢false (sym ((c.in_ok-accepted.ensures.accepted x e).1 h) ∙ c.if-branch.false);
   closed = λ m. closed-over (g.S.SearchSpace.problem c.args.space.now) _ c.args.self.now.bound
-      (g.S.SearchSpace.kept c.args.space.now) _ c.args.at None c.accepted.ensures.problem c.accepted.ensures.kept
+      (g.S.SearchSpace.kept c.args.space.now) _ c.args.at None c.accepted.ensures.same.problem c.accepted.ensures.kept
       (rw c.in-None.is at c.in_ok-a.ensures.closed) x e;
 }

@@ -28,9 +28,9 @@ returns-in_ok-push-in-Ok-Fresh-clause-listed g c =
     let at = depth-at c.args.self.now.depths old link.from c.in-Some.depth c.requires.ready.depths c.in-Some.ensures in
     let x = from p b old link c.in-Some.depth at in
     link-fresh p b old link c.in-Some.depth at new c.in-Ok-Fresh.field-0-0 (sym c.goes_on.ensures ∙ c.if-not-goes_on.false)
-    (subst (λ q. AreKept (pair_graph q) new) (c.child.ensures.problem ∙ c.has_step.ensures.problem) c.child.ensures.kept)
+    (subst (λ q. AreKept (pair_graph q) new) (c.child.ensures.same.problem ∙ c.has_step.ensures.same.problem) c.child.ensures.kept)
     (arrives-over p (g.S.SearchSpace.problem c.has_step.new.space) old (g.S.SearchSpace.kept c.has_step.new.space) new link.from link.action
-    (arrival.Fresh c.in-Ok-Fresh.field-0-0) c.has_step.ensures.problem c.has_step.ensures.kept
+    (arrival.Fresh c.in-Ok-Fresh.field-0-0) c.has_step.ensures.same.problem c.has_step.ensures.kept
     (rw c.in-Ok-Fresh.field-0-is at c.in-Ok-Fresh.ensures.arrival) x.0 x.1)
 
 pub returns-in_ok-push-in-Ok-Fresh-clause-ready : goal.returns-in_ok-push-in-Ok-Fresh-clause-ready
@@ -44,9 +44,9 @@ returns-in_ok-push-in-Ok-Fresh-clause-ready g c t =
     let x = from p b old link c.in-Some.depth at in
     let listed : ListsLink p b old new link true = link-fresh p b old link c.in-Some.depth at new c.in-Ok-Fresh.field-0-0
     (sym c.goes_on.ensures ∙ c.if-not-goes_on.false)
-    (subst (λ q. AreKept (pair_graph q) new) (c.child.ensures.problem ∙ c.has_step.ensures.problem) c.child.ensures.kept)
+    (subst (λ q. AreKept (pair_graph q) new) (c.child.ensures.same.problem ∙ c.has_step.ensures.same.problem) c.child.ensures.kept)
     (arrives-over p (g.S.SearchSpace.problem c.has_step.new.space) old (g.S.SearchSpace.kept c.has_step.new.space) new link.from link.action
-    (arrival.Fresh c.in-Ok-Fresh.field-0-0) c.has_step.ensures.problem c.has_step.ensures.kept
+    (arrival.Fresh c.in-Ok-Fresh.field-0-0) c.has_step.ensures.same.problem c.has_step.ensures.kept
     (rw c.in-Ok-Fresh.field-0-is at c.in-Ok-Fresh.ensures.arrival) x.0 x.1) in
     ready-more (g.S.SearchSpace.task c.args.space.now) p b old new link c.in-Some.depth
     (record { alloc = c.args.self.now.alloc; bound = b; depths = c.push.new.self; known = c.has_step.new.known }) at
@@ -74,8 +74,8 @@ returns-in-Err-clause-fault g c = λ x e.
     subst (λ xs. slice_get xs link.from ≡ Some x) (sym c.has_step.ensures.kept) e in
     visit-told _ link.action x c.in-Err.fault c.child_fault.result (c.child_fault.ensures.fault x
     (subst (λ xs. slice_get xs link.from ≡ Some x) (sym c.in-Err.ensures.refused) k))
-    (subst (λ p. IsCausedByChild p x.node link.action c.in-Err.fault) c.has_step.ensures.problem (c.in-Err.ensures.cause x k))
+    (subst (λ p. IsCausedByChild p x.node link.action c.in-Err.fault) c.has_step.ensures.same.problem (c.in-Err.ensures.cause x k))
 
 pub returns-in-Err-clause-named : goal.returns-in-Err-clause-named
 returns-in-Err-clause-named g c = subst (λ t. FaultIsNamed t c.child_fault.result)
-    (c.child.ensures.task ∙ c.has_step.ensures.task) c.child_fault.ensures.named
+    (c.child.ensures.same.task ∙ c.has_step.ensures.same.task) c.child_fault.ensures.named

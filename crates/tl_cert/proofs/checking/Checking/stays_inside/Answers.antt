@@ -19,7 +19,7 @@ is_no_farther-requires-clause-other g c =
     omega (arith, l, ap length c.requires.depths, length-depths old)
 
 pub child_fault-requires-clause-named : goal.child_fault-requires-clause-named
-child_fault-requires-clause-named g c = subst (λ t. IsNamedIn t c.args.a.now) (sym c.child.ensures.task) c.requires.named
+child_fault-requires-clause-named g c = subst (λ t. IsNamedIn t c.args.a.now) (sym c.child.ensures.same.task) c.requires.named
 
 pub returns-in-Ok-Fresh-clause-inside : goal.returns-in-Ok-Fresh-clause-inside
 returns-in-Ok-Fresh-clause-inside g c =
@@ -27,7 +27,7 @@ returns-in-Ok-Fresh-clause-inside g c =
     let new = g.S.SearchSpace.kept c.child.new.self in
     let x = get-inside old c.args.at c.requires.at in
     inside-fresh (g.S.SearchSpace.problem c.args.space.now) c.args.self.now.bound old c.args.at x.0 x.1 c.args.a.now new _
-    (subst (λ p. AreKept (pair_graph p) new) c.child.ensures.problem c.child.ensures.kept)
+    (subst (λ p. AreKept (pair_graph p) new) c.child.ensures.same.problem c.child.ensures.kept)
     ((rw c.in-Ok-Fresh.field-0-is at c.in-Ok-Fresh.ensures.arrival) x.0 x.1)
 
 pub returns-in-Ok-Seen-clause-kept : goal.returns-in-Ok-Seen-clause-kept
@@ -46,7 +46,7 @@ returns-in-Ok-Seen-clause-inside g c =
     ap (λ ds. is_no_farther b (slice_index ds c.args.at) (slice_index ds c.in-Ok-Seen.k)) c.requires.depths))
     (inside-seen p b old c.args.at x.0 x.1 c.args.a.now _ c.in-Ok-Seen.k
     (subst (AreKept (pair_graph p)) h.0 (subst (λ q. AreKept (pair_graph q) (g.S.SearchSpace.kept c.child.new.self))
-    c.child.ensures.problem c.child.ensures.kept)) h)
+    c.child.ensures.same.problem c.child.ensures.kept)) h)
 
 pub returns-in-Ok-Pruned-clause-kept : goal.returns-in-Ok-Pruned-clause-kept
 returns-in-Ok-Pruned-clause-kept g c t =
@@ -60,4 +60,5 @@ returns-in-Err-clause-fault g c = λ x e.
     (c.in-Err.ensures.cause x e)
 
 pub returns-in-Err-clause-path_named : goal.returns-in-Err-clause-path_named
-returns-in-Err-clause-path_named g c = subst (λ t. FaultIsNamed t c.child_fault.result) c.child.ensures.task c.child_fault.ensures.named
+returns-in-Err-clause-path_named g c = subst (λ t. FaultIsNamed t c.child_fault.result) c.child.ensures.same.task
+    c.child_fault.ensures.named

@@ -3,6 +3,7 @@ use Rattle.std.proofs.lemmas.Result.{err_from_is_err_and}
 use Rattle.tl_cert.specs.Checking.{IsJudgingFault, JudgesNode}
 use Rattle.tl_cert.proofs.Depths.{length-depths}
 use Rattle.tl_cert.proofs.Nodes.{right-more, all-right, first-wrong, fault-of-nodes}
+use Rattle.tl_search.proofs.SameTaskLaws.{same-task-after}
 use Rattle.tl_cert.proofs.checking.Checking.verdict.Goals as goal
 
 pub returns-in_err-wrong-clause-fault : goal.returns-in_err-wrong-clause-fault
@@ -20,7 +21,7 @@ returns-in_err-wrong-clause-fault g c =
       ap length c.requires.depths,
       length-depths old,
     ) in
-    rw (q.1, q.2) (fault-of-nodes p b old c.loop-at.at f l (subst (λ r. IsJudgingFault r b old c.loop-at.at f) i.problem
+    rw (q.1, q.2) (fault-of-nodes p b old c.loop-at.at f l (subst (λ r. IsJudgingFault r b old c.loop-at.at f) i.same.problem
     (subst (λ zs. IsJudgingFault (g.S.SearchSpace.problem c.loop-at.space) b zs c.loop-at.at f) i.kept c.in_err-wrong.ensures.fault)))
 
 pub returns-in-Some-clause-judged : goal.returns-in-Some-clause-judged
@@ -37,7 +38,7 @@ returns-in-Some-clause-judged g c =
       ap length c.requires.depths,
       length-depths old,
     ) in
-    first-wrong p b old c.loop-at.at c.in-Some.wrong l i.right (subst (λ r. JudgesNode r b old c.loop-at.at o) i.problem
+    first-wrong p b old c.loop-at.at c.in-Some.wrong l i.right (subst (λ r. JudgesNode r b old c.loop-at.at o) i.same.problem
     (subst (λ zs. JudgesNode (g.S.SearchSpace.problem c.loop-at.space) b zs c.loop-at.at o) i.kept
     (rw c.in-Some.is at c.in_ok-wrong.ensures.judged)))
 
@@ -48,10 +49,9 @@ loop-at-preserved g c =
     let b = c.args.self.now.bound in
     let old = g.S.SearchSpace.kept c.args.space.now in
     record {
-      task = c.judge.ensures.task ∙ i.task;
-      problem = c.judge.ensures.problem ∙ i.problem;
+      same = same-task-after c.judge.ensures.same i.same;
       kept = c.in_ok-wrong.ensures.kept c.in-None.is ∙ i.kept;
-      right = right-more p b old c.loop-at.at i.right (subst (λ r. JudgesNode r b old c.loop-at.at None) i.problem
+      right = right-more p b old c.loop-at.at i.right (subst (λ r. JudgesNode r b old c.loop-at.at None) i.same.problem
           (subst (λ zs. JudgesNode (g.S.SearchSpace.problem c.loop-at.space) b zs c.loop-at.at None) i.kept
           (rw c.in-None.is at c.in_ok-wrong.ensures.judged)));
     }
