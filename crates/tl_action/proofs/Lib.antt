@@ -13,6 +13,7 @@ pub mod AppliedOperators
 pub mod NewVariables
 pub mod FrameRows
 pub mod Completions
+pub mod EarlyParts
 pub mod Rows
 pub mod BoundOrders
 pub mod JoinNodes

@@ -7,6 +7,7 @@ pub mod Prepared
 pub mod Join
 pub mod RowLists
 pub mod UnderFrames
+pub mod Early
 pub mod StepsHere
 pub mod Actions
 pub mod ChangedWorlds

@@ -3,6 +3,7 @@ ghost use Rattle.std.specs.Prelude.{◌<◌, ◌≤◌, IfNone, IfSome};
 ghost use Rattle.tl_action.specs.Join.{bound_count};
 ghost use Rattle.tl_action.specs.UnderFrames.{OperatorIsKept, IsPassedUnder, HasNoneUnder, RowIsJoined, RowsAreJoined, KeepsKnown, KeepsParameters};
 
+use crate::early::is_ruled_out;
 use crate::here::Here;
 use crate::order::JoinOrder;
 use crate::prepared::is_prepared;
@@ -74,6 +75,9 @@ fn join_bound(
     ensures rows { RowsAreJoined here.now order.now.bounds j env.old rows.old rows.new result }
     ensures frame { KeepsKnown order.now.bounds j env.old env.new }
 {
+    if is_ruled_out(here, env, order, j) {
+        return Ok(());
+    }
     let new_parameters = order.new_parameters.as_slice();
     let vars = &new_parameters[j];
     let bound = order.bounds.bound(j);

@@ -8,6 +8,7 @@ mod changes;
 mod check_fault;
 mod clash;
 mod collect;
+mod early;
 mod first_bound;
 mod here;
 mod join;

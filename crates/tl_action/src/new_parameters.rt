@@ -44,7 +44,7 @@ pub(crate) fn stands_in(var: &Var, b: &Bound) -> bool
 }
 
 /// Whether the variable stands in one of the first `j` bounds that are joined. It takes no memory.
-fn stands_before(var: &Var, bounds: &Arranged, j: usize) -> bool
+pub(crate) fn stands_before(var: &Var, bounds: &Arranged, j: usize) -> bool
     requires { j ≤ bound_count bounds.now }
     ensures { result ≡ stands_in_one (take j (arranged bounds.now).bounds) var.now }
 {

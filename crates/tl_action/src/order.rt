@@ -5,6 +5,7 @@ ghost use Rattle.tl_action.specs.Sure.{are_sure};
 ghost use Rattle.tl_syntax.specs.TreeOfEffect.{tree_of_effects};
 
 use crate::arranged::Arranged;
+use crate::early::early_parts;
 use crate::new_parameters::new_parameters_of;
 use crate::sure::are_sure;
 use std::alloc::Global;
@@ -20,6 +21,8 @@ pub(crate) struct JoinOrder<'a> {
     pub(crate) new_parameters: Vec<Vars>,
     /// Whether none of the effects can fail, so that the precondition alone decides.
     pub(crate) sure: bool,
+    /// For the first parts of the precondition, the bound before which each is tested.
+    pub(crate) early: Vec<usize>,
     pub(crate) ghost new_parameters_are: { new_parameters.items ≡ new_parameters_in bounds },
     pub(crate) ghost sure_is: { sure ≡ are_sure (tree_of_effects bounds.operator.now.effects) },
 }
@@ -40,11 +43,13 @@ impl<'a> JoinOrder<'a> {
     {
         let bounds = Arranged { operator, first };
         let new_parameters = new_parameters_of(alloc, &bounds)?;
+        let early = early_parts(alloc, &bounds, new_parameters.as_slice())?;
         let sure = are_sure(&operator.effects);
         Ok(JoinOrder {
             bounds,
             new_parameters,
             sure,
+            early,
         })
     }
 }

@@ -12,11 +12,13 @@ use tl_syntax::{NoMemory, Operator, Vars};
 /// What is worked out once of an operator whose bounds are joined in their own order. Contracts see
 /// the new parameters of each bound, and whether none of the effects can fail.
 ///
-/// How many rows there were last is kept as a guess for the next time.
+/// Before which bound a part of the precondition is tested, and how many rows there were last, are
+/// kept as guesses: no contract speaks of them.
 #[derive(Drop)]
 pub(crate) struct OwnOrder {
     new_parameters: Vec<Vars>,
     sure: bool,
+    early: Vec<usize>,
     many: usize,
 }
 
@@ -38,6 +40,7 @@ impl OwnOrder {
         Ok(OwnOrder {
             new_parameters: order.new_parameters,
             sure: order.sure,
+            early: order.early,
             many: 0,
         })
     }
@@ -55,10 +58,12 @@ impl OwnOrder {
     {
         let bounds = Arranged { operator, first: 0 };
         let new_parameters = mem::replace(&mut self.new_parameters, Vec::new(alloc));
+        let early = mem::replace(&mut self.early, Vec::new(alloc));
         JoinOrder {
             bounds,
             new_parameters,
             sure: self.sure,
+            early,
         }
     }
 
@@ -69,6 +74,7 @@ impl OwnOrder {
     {
         self.new_parameters = order.new_parameters;
         self.sure = order.sure;
+        self.early = order.early;
         self.many = many;
     }
 }

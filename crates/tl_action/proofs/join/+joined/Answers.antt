@@ -1,9 +1,9 @@
 use Rattle.std.proofs.Common.{rules, ◌≡◌, ◌<◌, ◌≤◌, ◌+◌, List, take, drop, length, get_or, sym, ap, ◌∙◌, subst, arith}
-use Rattle.tl_action.specs.Join.{arranged, AddsRows}
+use Rattle.tl_action.specs.Join.{arranged, AddsRows, IsFound}
 use Rattle.tl_action.proofs.EffectParts.{agree-self}
 use Rattle.tl_action.proofs.JoinNodes.{Node, new_parameters-count, node-at, node-frame, joins-past}
 use Rattle.tl_action.proofs.JoinReads.{read-begun, read-on, read-fault, read-end, read-smaller}
-use Rattle.tl_action.proofs.Rows.{known-agree}
+use Rattle.tl_action.proofs.Rows.{known-agree, no-row}
 use Rattle.tl_action.proofs.Walks.{take-past, drop-past}
 use Rattle.tl_eval.specs.Frames.{assignment_in}
 use Rattle.tl_eval.proofs.ArityLaws.{declared-few}
@@ -15,6 +15,17 @@ use Rattle.tl_syntax.specs.Lists.{Each}
 use Rattle.tl_syntax.specs.Signature.{signature_of}
 use Rattle.tl_terms.specs.ProblemMeaning.{plain_operator, plain_problem}
 use Rattle.tl_action.proofs.join.+joined.Goals as goal
+
+pub join_bound-returns-then-is_ruled_out-clause-rows : goal.join_bound-returns-then-is_ruled_out-clause-rows
+join_bound-returns-then-is_ruled_out-clause-rows t c = no-row (IsFound (plain_problem c.args.here.now.task.now.problem)
+    c.args.here.now.world.now (plain_operator (arranged c.args.order.now.bounds)) (take c.args.j (arranged c.args.order.now.bounds).bounds)
+    (drop c.args.j (arranged c.args.order.now.bounds).bounds) (assignment_in c.args.env.now)) c.args.rows.now.items
+    (c.is_ruled_out.ensures c.if-is_ruled_out.true)
+
+pub join_bound-returns-then-is_ruled_out-clause-frame : goal.join_bound-returns-then-is_ruled_out-clause-frame
+join_bound-returns-then-is_ruled_out-clause-frame t c = known-agree (take c.args.j (arranged c.args.order.now.bounds).bounds)
+    c.args.order.now.bounds.operator.now.params (assignment_in c.args.env.now) (assignment_in c.args.env.now)
+    (agree-self (slots_of c.args.order.now.bounds.operator.now.params) (assignment_in c.args.env.now))
 
 pub join_bound-bounds-new_parameters-j : goal.join_bound-bounds-new_parameters-j
 join_bound-bounds-new_parameters-j t c =
