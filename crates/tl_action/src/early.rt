@@ -1,6 +1,6 @@
 // Parts of a precondition that are tested before all parameters have values.
 ghost use Rattle.std.specs.List.{list_all};
-ghost use Rattle.std.specs.Prelude.{◌≡◌, ◌≤◌, ◌&&◌, true, false, IfSome};
+ghost use Rattle.std.specs.Prelude.{◌≡◌, ◌≤◌, ◌&&◌, true, false, IfSome, IsTrue};
 ghost use Rattle.tl_action.specs.Early.{is_known_as, is_known_slot, is_known_term, AreKnown, IsConjunct, IsTruthHere, HasNoneFoundUnder, IsAmongParts};
 ghost use Rattle.tl_action.specs.Join.{bound_count};
 ghost use Rattle.tl_syntax.specs.FreeVariables.{free_slots};
@@ -76,7 +76,7 @@ fn both_known(left: &Term, right: &Term, bounds: &Arranged, j: usize) -> bool
 /// Whether the formula is an atom or a comparison of such terms. It takes no memory.
 fn is_known_basic(f: &Formula, bounds: &Arranged, j: usize) -> bool
     requires { j ≤ bound_count bounds.now }
-    ensures { result ≡ true → AreKnown bounds.now j (free_slots (tree_of_formula f.now)) }
+    ensures { IsTrue result → AreKnown bounds.now j (free_slots (tree_of_formula f.now)) }
 {
     match f {
         Formula::Atom(_, args) => are_known(args.as_slice(), bounds, j),
@@ -89,7 +89,7 @@ fn is_known_basic(f: &Formula, bounds: &Arranged, j: usize) -> bool
 /// that stand in the first `j` bounds that are joined. It takes no memory.
 fn is_known_part(f: &Formula, bounds: &Arranged, j: usize) -> bool
     requires { j ≤ bound_count bounds.now }
-    ensures { result ≡ true → AreKnown bounds.now j (free_slots (tree_of_formula f.now)) }
+    ensures { IsTrue result → AreKnown bounds.now j (free_slots (tree_of_formula f.now)) }
 {
     match f {
         Formula::Not(part) => is_known_basic(part, bounds, j),
@@ -112,7 +112,7 @@ fn plain_truth(here: &Here, env: &Env, f: &Formula) -> Option<bool>
 
 /// Whether the formula is plainly true under the frame. It takes no memory.
 fn is_plainly_true(here: &Here, env: &Env, f: &Formula) -> bool
-    ensures { result ≡ true → IsTruthHere here.now env.now f.now true }
+    ensures { IsTrue result → IsTruthHere here.now env.now f.now true }
 {
     match plain_truth(here, env, f) {
         Some(found) => found,
@@ -122,7 +122,7 @@ fn is_plainly_true(here: &Here, env: &Env, f: &Formula) -> bool
 
 /// Whether the formula is plainly false under the frame. It takes no memory.
 fn is_plainly_false(here: &Here, env: &Env, f: &Formula) -> bool
-    ensures { result ≡ true → IsTruthHere here.now env.now f.now false }
+    ensures { IsTrue result → IsTruthHere here.now env.now f.now false }
 {
     match plain_truth(here, env, f) {
         Some(found) => !found,
@@ -133,7 +133,7 @@ fn is_plainly_false(here: &Here, env: &Env, f: &Formula) -> bool
 /// Whether the formula, or what it negates, is plain to read, and it is false under the frame. It
 /// takes no memory.
 fn is_false(here: &Here, env: &Env, f: &Formula) -> bool
-    ensures { result ≡ true → IsTruthHere here.now env.now f.now false }
+    ensures { IsTrue result → IsTruthHere here.now env.now f.now false }
 {
     match f {
         Formula::Not(part) => is_plainly_true(here, env, part),
@@ -219,7 +219,7 @@ pub(crate) fn early_parts(
 /// that stand in none of the first `j` bounds. It takes no memory.
 fn is_false_part(here: &Here, env: &Env, order: &JoinOrder, j: usize, place: usize) -> bool
     requires { j ≤ bound_count order.now.bounds }
-    ensures { result ≡ true → HasNoneFoundUnder here.now order.now.bounds env.now j }
+    ensures { IsTrue result → HasNoneFoundUnder here.now order.now.bounds env.now j }
 {
     match part_at(&order.bounds.operator.pre, place) {
         Some(part) => is_known_part(part, &order.bounds, j) && is_false(here, env, part),
@@ -231,7 +231,7 @@ fn is_false_part(here: &Here, env: &Env, order: &JoinOrder, j: usize, place: usi
 /// the precondition that is tested before that bound is false. It takes no memory.
 pub(crate) fn is_ruled_out(here: &Here, env: &Env, order: &JoinOrder, j: usize) -> bool
     requires { j ≤ bound_count order.now.bounds }
-    ensures { result ≡ true → HasNoneFoundUnder here.now order.now.bounds env.now j }
+    ensures { IsTrue result → HasNoneFoundUnder here.now order.now.bounds env.now j }
 {
     for (place, before) in order.early.iter().enumerate() {
         if *before == j && is_false_part(here, env, order, j, place) {

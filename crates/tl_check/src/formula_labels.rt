@@ -1,5 +1,5 @@
 // The labels of formulas.
-ghost use Rattle.std.specs.Prelude.{◌≡◌, ◌+◌, length, true, OnOk};
+ghost use Rattle.std.specs.Prelude.{◌≡◌, ◌+◌, length, OnOk, IsTrue};
 ghost use Rattle.tl_check.specs.AlongStates.{FitsAlong, IsInstanceAlong};
 ghost use Rattle.tl_check.specs.AlongStates.{AreLabelsAlong, JoinsPartAlong, JoinsAlong};
 ghost use Rattle.tl_check.specs.AlongStates.{AreNegatedLabels, AreNextLabels, AreLaterLabels};
@@ -35,7 +35,7 @@ use tl_syntax::{Formula, Formulas, Junction};
 /// reading: it has parts and no temporal word, and functions, definitions or operations stand in
 /// it, those on variables and values only where states are kept. It takes no memory.
 fn is_read_whole(f: &Formula, along: &Along) -> bool
-    ensures { result ≡ true → IsState (tree_of_formula f.now) }
+    ensures { IsTrue result → IsState (tree_of_formula f.now) }
 {
     let compared = if along.kept.is_empty() {
         Compared::Fixed

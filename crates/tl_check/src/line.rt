@@ -1,5 +1,5 @@
 // When a fact holds along some states.
-ghost use Rattle.std.specs.Prelude.{◌≡◌, ◌≤◌, ◌<◌, ℕ, IfOk, OnOk, false, true};
+ghost use Rattle.std.specs.Prelude.{◌≡◌, ◌≤◌, ◌<◌, ℕ, IfOk, OnOk, false, IsTrue};
 ghost use Rattle.tl_check.specs.Gathered.{GoesOn, BeginsAt, HoldsIn};
 ghost use Rattle.tl_check.specs.Lines.{truth_from, test_in};
 
@@ -55,7 +55,7 @@ pub(crate) fn line_labels(alloc: Global, line: &[Change], span: Span) -> Result<
 
 /// Whether the last change is at this position, and the fact holds before it. It takes no memory.
 fn goes_on(line: &[Change], at: usize) -> bool
-    ensures { result ≡ true → GoesOn at line.now }
+    ensures { IsTrue result → GoesOn at line.now }
 {
     let count = line.len();
     if count < 2 {

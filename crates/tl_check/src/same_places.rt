@@ -1,5 +1,5 @@
 // Whether a bound reads the same in two states.
-ghost use Rattle.std.specs.Prelude.{◌≡◌, ◌↔◌, ◌<◌, ◌≤◌, length, true};
+ghost use Rattle.std.specs.Prelude.{◌≡◌, ◌↔◌, ◌<◌, ◌≤◌, length, IsTrue};
 ghost use Rattle.tl_check.specs.Gathered.{ReadSame, ReadSameUpTo, HaveSamePlaces};
 
 use crate::span::Span;
@@ -9,21 +9,21 @@ use tl_world::World;
 
 /// Whether the two are the same values. It takes no memory.
 fn are_same(left: &[Value], right: &[Value]) -> bool
-    ensures { (result ≡ true) ↔ (left.now ≡ right.now) }
+    ensures { IsTrue result ↔ (left.now ≡ right.now) }
 {
     left == right
 }
 
 /// Whether the two are the same value. It takes no memory.
 fn is_same(left: Value, right: Value) -> bool
-    ensures { (result ≡ true) ↔ (left ≡ right) }
+    ensures { IsTrue result ↔ (left ≡ right) }
 {
     left == right
 }
 
 /// Whether both tables have the same places with the same values. It takes no memory.
 fn are_same_places(left: &PlaceRows, right: &PlaceRows) -> bool
-    ensures { result ≡ true → left.now ≡ right.now }
+    ensures { IsTrue result → left.now ≡ right.now }
 {
     let count = left.len();
     if count != right.len() {
@@ -39,7 +39,7 @@ fn are_same_places(left: &PlaceRows, right: &PlaceRows) -> bool
 
 /// Whether the places of a function have the same values in both states. It takes no memory.
 fn have_same_places(fun: u32, left: &World, right: &World) -> bool
-    ensures { result ≡ true → HaveSamePlaces fun left.now right.now }
+    ensures { IsTrue result → HaveSamePlaces fun left.now right.now }
 {
     match (left.places(fun), right.places(fun)) {
         (Some(x), Some(y)) => are_same_places(x, y),
@@ -51,7 +51,7 @@ fn have_same_places(fun: u32, left: &World, right: &World) -> bool
 
 /// Whether the bound is over places that have the same values in both states. It takes no memory.
 fn reads_same(bound: &Bound, left: &World, right: &World) -> bool
-    ensures { result ≡ true → ReadSame bound.now left.now right.now }
+    ensures { IsTrue result → ReadSame bound.now left.now right.now }
 {
     match bound {
         Bound::Fact(_, _) => false,

@@ -1,5 +1,5 @@
 // The labels of formulas that read no state.
-ghost use Rattle.std.specs.Prelude.{◌≡◌, ◌≤◌, ◌^◌, OnOk, length, true};
+ghost use Rattle.std.specs.Prelude.{◌≡◌, ◌≤◌, ◌^◌, OnOk, length, IsTrue};
 ghost use Rattle.tl_check.specs.AlongStates.{FitsAlong, AreLabelsIn, AreLabelsAlong};
 ghost use Rattle.tl_check.specs.FixedTerms.{IsFixed};
 ghost use Rattle.tl_check.specs.Spans.{IsWithin};
@@ -21,7 +21,7 @@ use tl_world::World;
 /// Whether the term has the same value in every state, or none in any: no function stands in it. It
 /// takes no memory.
 pub(crate) fn is_fixed(term: &Term) -> bool
-    ensures { result ≡ true → IsFixed (tree_of_term term.now) }
+    ensures { IsTrue result → IsFixed (tree_of_term term.now) }
 {
     match term {
         Term::Var(_) => true,
@@ -34,7 +34,7 @@ pub(crate) fn is_fixed(term: &Term) -> bool
 /// Whether the formula reads no state: it speaks of the goal list or of values alone. It takes no
 /// memory.
 pub(crate) fn is_steady(f: &Formula) -> bool
-    ensures { result ≡ true → IsSteady (tree_of_formula f.now) }
+    ensures { IsTrue result → IsSteady (tree_of_formula f.now) }
 {
     match f {
         Formula::True => true,

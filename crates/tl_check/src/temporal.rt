@@ -1,5 +1,5 @@
 // Whether a formula has temporal words.
-ghost use Rattle.std.specs.Prelude.{◌≡◌, true};
+ghost use Rattle.std.specs.Prelude.{IsTrue};
 ghost use Rattle.tl_syntax.specs.StateFormulas.{IsState, AreState};
 ghost use Rattle.tl_syntax.specs.TreeOfFormula.{tree_of_formula, tree_of_formulas};
 
@@ -9,7 +9,7 @@ use tl_syntax::{Formula, Formulas};
 #[cycle(is_state)]
 #[tactic(auto, using(tl_syntax::proofs::FormulaTrees::formula_trees))]
 pub(crate) fn is_state(f: &Formula) -> bool
-    ensures { result ≡ true → IsState (tree_of_formula f.now) }
+    ensures { IsTrue result → IsState (tree_of_formula f.now) }
 {
     match f {
         Formula::True => true,
@@ -37,7 +37,7 @@ pub(crate) fn is_state(f: &Formula) -> bool
 /// Whether none of the formulas has a temporal word. It takes no memory.
 #[cycle(is_state)]
 fn are_state(parts: &Formulas) -> bool
-    ensures { result ≡ true → AreState (tree_of_formulas parts.now) }
+    ensures { IsTrue result → AreState (tree_of_formulas parts.now) }
 {
     for part in parts.as_slice().iter() {
         if !is_state(part) {

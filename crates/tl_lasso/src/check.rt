@@ -1,5 +1,5 @@
 // The check of a plan with a repeated part.
-ghost use Rattle.std.specs.Prelude.{◌≡◌, ◌↔◌, ◌<◌, ◌+◌, ◌++◌, ◌^◌, length, true, IfOk, IfErr, OnOk};
+ghost use Rattle.std.specs.Prelude.{◌≡◌, ◌↔◌, ◌<◌, ◌+◌, ◌++◌, ◌^◌, length, IfOk, IfErr, OnOk, IsTrue};
 ghost use Rattle.tl_action.specs.Actions.{HasOperator};
 ghost use Rattle.tl_check.specs.Judged.{IsKept};
 ghost use Rattle.tl_lasso.specs.Judged.{IsJudgement};
@@ -38,7 +38,7 @@ fn both_parts(alloc: Global, stem: &[Action], cycle: &[Action]) -> Result<Action
 /// Whether the worlds are the same, in their facts and in the values of all places. It takes no
 /// memory.
 fn are_same(left: &World, right: &World) -> bool
-    ensures { (result ≡ true) ↔ (left.now ≡ right.now) }
+    ensures { IsTrue result ↔ (left.now ≡ right.now) }
 {
     left == right
 }
