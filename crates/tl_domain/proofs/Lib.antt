@@ -21,3 +21,6 @@ pub mod ConstantEffects
 pub mod ConstantFacts
 pub mod OperatorsDiffer
 pub mod WritableNames
+pub mod MeanHeads
+pub mod MeanOperators
+pub mod MeanItems

@@ -6,6 +6,7 @@ pub mod Items
 pub mod DomainFiles
 pub mod DomainTrees
 pub mod MeaningOfItems
+pub mod PartialItems
 pub mod Readers
 pub mod Clauses
 pub mod ItemShapes
@@ -15,3 +16,4 @@ pub mod LawsOrder
 pub mod LawsKeeps
 pub mod LawsFiles
 pub mod LawsNames
+pub mod LawsMean

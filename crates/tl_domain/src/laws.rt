@@ -1,6 +1,7 @@
 // Laws of domain files, each the contract of a function that does nothing.
 ghost use Rattle.tl_domain.specs.LawsFiles.{FilesStandForOneProblem, NamesAreTexts};
 ghost use Rattle.tl_domain.specs.LawsKeeps.{DomainIsKept};
+ghost use Rattle.tl_domain.specs.LawsMean.{DomainFilesMean};
 ghost use Rattle.tl_domain.specs.LawsNames.{LawfulNamesAreWritable};
 ghost use Rattle.tl_domain.specs.LawsOrder.{FirstBreakIsLeast};
 
@@ -32,4 +33,9 @@ pub fn files_stand_for_one_problem()
 /// variable, and operators have different names.
 pub fn lawful_names_are_writable()
     ensures { LawfulNamesAreWritable }
+{}
+
+/// The forms of a domain file mean a domain exactly where they break no rule.
+pub fn domain_files_mean()
+    ensures { DomainFilesMean }
 {}

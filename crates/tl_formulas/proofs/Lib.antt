@@ -23,3 +23,7 @@ pub mod KeepsFormulas
 pub mod KeepsState
 pub mod KeepsEffects
 pub mod KeepsMore
+pub mod MeanTerms
+pub mod MeanBounds
+pub mod MeanFormulas
+pub mod MeanEffects

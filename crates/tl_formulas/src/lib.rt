@@ -13,6 +13,7 @@ mod formula_leaves;
 mod formula_parts;
 mod formulas;
 mod goals;
+pub mod laws;
 mod quantifiers;
 mod roles;
 mod scope;

@@ -7,5 +7,6 @@ pub mod Beginnings
 pub mod Order
 pub mod Offsets
 pub mod OneForm
+pub mod Unbroken
 pub mod NamesHave
 pub mod SymbolsJoin

@@ -5,4 +5,6 @@ pub mod Symbols
 pub mod Reads
 pub mod Named
 pub mod OneForm
+pub mod Unbroken
+pub mod Both
 pub mod Values
