@@ -13,3 +13,4 @@ pub mod Faulting
 pub mod Expanding
 pub mod Searching
 pub mod FileOrder
+pub mod MeanCosts

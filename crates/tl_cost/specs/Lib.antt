@@ -5,4 +5,6 @@ pub mod Ongoing
 pub mod Outcomes
 pub mod Ticks
 pub mod CostFiles
+pub mod PartialCosts
+pub mod LawsMean
 pub mod CostTexts

@@ -3,6 +3,7 @@
 
 mod cost_files;
 mod costs;
+pub mod laws;
 mod open_list;
 mod outcome;
 mod texts;

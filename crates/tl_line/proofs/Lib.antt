@@ -8,3 +8,4 @@ pub mod Pieces
 pub mod Tokens
 pub mod WrittenForms
 pub mod ReadBack
+pub mod MeanActions

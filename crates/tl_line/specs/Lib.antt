@@ -1,12 +1,14 @@
 pub mod Actions
 pub mod ActionLists
 pub mod MeaningOfActions
+pub mod PartialActions
 pub mod ReadActions
 pub mod NamedActions
 pub mod ActionTexts
 pub mod AnswerLines
 pub mod Puts
 pub mod LawsOrder
+pub mod LawsMean
 pub mod WritableActions
 pub mod LawsReadBack
 pub mod Examples

@@ -1,4 +1,5 @@
 // Laws of actions, each the contract of a function that does nothing.
+ghost use Rattle.tl_line.specs.LawsMean.{ActionsMean};
 ghost use Rattle.tl_line.specs.LawsOrder.{FirstBreakIsLeast};
 ghost use Rattle.tl_line.specs.LawsReadBack.{TextIsReadBack};
 
@@ -12,4 +13,9 @@ pub fn first_break_is_least()
 /// to differ, and the names in the action have to be symbols, and no variables in its arguments.
 pub fn text_is_read_back()
     ensures { TextIsReadBack }
+{}
+
+/// Forms mean actions exactly where they break no rule in the role of a plan's actions.
+pub fn actions_mean()
+    ensures { ActionsMean }
 {}

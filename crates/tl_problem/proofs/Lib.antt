@@ -8,3 +8,5 @@ pub mod Consistent
 pub mod Kept
 pub mod ReadProblems
 pub mod GoByDeclarations
+pub mod MeanFacts
+pub mod MeanProblems

@@ -6,8 +6,10 @@ pub mod Literals
 pub mod ElementWords
 pub mod Elements
 pub mod ProblemFiles
+pub mod PartialProblems
 pub mod Readers
 pub mod LawsOrder
+pub mod LawsMean
 pub mod Keeps
 pub mod LawsKeeps
 pub mod Examples

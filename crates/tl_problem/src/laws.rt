@@ -1,6 +1,7 @@
 // Laws of problem files, each the contract of a function that does nothing.
 ghost use Rattle.tl_problem.specs.LawsDeclarations.{FilesGoByDeclarations};
 ghost use Rattle.tl_problem.specs.LawsKeeps.{LawfulProblemKeeps};
+ghost use Rattle.tl_problem.specs.LawsMean.{ProblemsMean};
 ghost use Rattle.tl_problem.specs.LawsOrder.{FirstBreakIsLeast};
 
 /// Of the rules that the forms of a problem file break, the first in reading order is at the least
@@ -18,4 +19,9 @@ pub fn lawful_problem_keeps()
 /// What a problem file breaks and says goes, of the domain, by its predicates and functions alone.
 pub fn files_go_by_declarations()
     ensures { FilesGoByDeclarations }
+{}
+
+/// The forms of a problem file mean a problem exactly where they break no rule.
+pub fn problems_mean()
+    ensures { ProblemsMean }
 {}
