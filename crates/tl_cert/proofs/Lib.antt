@@ -10,3 +10,4 @@ pub mod Rulesets
 pub mod ProofForms
 pub mod ProofOrder
 pub mod ProofReadBack
+pub mod MeanProofs

@@ -6,6 +6,8 @@ pub mod Checking
 pub mod Reports
 pub mod ProofFiles
 pub mod MeaningOfProofs
+pub mod PartialProofs
+pub mod LawsMean
 pub mod ProofTexts
 pub mod LawsReadBack
 pub mod Laws

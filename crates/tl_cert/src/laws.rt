@@ -1,5 +1,6 @@
 // Laws of the definitions, each the contract of a function that does nothing.
 ghost use Rattle.tl_cert.specs.Laws.{CoveredHasNone, OneNoneVerdict};
+ghost use Rattle.tl_cert.specs.LawsMean.{ProofsMean};
 ghost use Rattle.tl_cert.specs.LawsReadBack.{ProofsAreReadBack};
 
 /// Where a proof covers the search space, no plan is accepted; with a bound, none of at most so
@@ -16,4 +17,9 @@ pub fn one_none_verdict()
 /// The lines of a proof that can be written are read as this proof.
 pub fn proofs_are_read_back()
     ensures { ProofsAreReadBack }
+{}
+
+/// The forms of a proof file mean a proof exactly where they break no rule.
+pub fn proofs_mean()
+    ensures { ProofsMean }
 {}

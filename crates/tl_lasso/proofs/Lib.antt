@@ -3,3 +3,4 @@ pub mod LoopForms
 pub mod LoopOrder
 pub mod VerdictLaws
 pub mod JudgeLaws
+pub mod MeanLoops

@@ -3,6 +3,8 @@ pub mod Judged
 pub mod Laws
 pub mod LoopFiles
 pub mod MeaningOfLoops
+pub mod PartialLoops
+pub mod LawsMean
 pub mod ReadLoops
 pub mod LoopTexts
 pub mod Examples

@@ -1,10 +1,12 @@
 pub mod Plans
 pub mod MeaningOfPlans
+pub mod PartialPlans
 pub mod Refusals
 pub mod Ranges
 pub mod Outcomes
 pub mod Traces
 pub mod LawsOrder
+pub mod LawsMean
 pub mod LawsReadBack
 pub mod Examples
 pub mod Verdicts

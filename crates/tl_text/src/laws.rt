@@ -1,4 +1,5 @@
 // Laws of plan files, each the contract of a function that does nothing.
+ghost use Rattle.tl_text.specs.LawsMean.{PlansMean};
 ghost use Rattle.tl_text.specs.LawsOrder.{FirstBreakIsLeast};
 ghost use Rattle.tl_text.specs.LawsReadBack.{LinesAreReadBack, PlansAreReadBack};
 
@@ -18,4 +19,9 @@ pub fn lines_are_read_back()
 /// line is a comment.
 pub fn plans_are_read_back()
     ensures { PlansAreReadBack }
+{}
+
+/// The forms of a plan file mean a plan exactly where they break no rule.
+pub fn plans_mean()
+    ensures { PlansMean }
 {}
